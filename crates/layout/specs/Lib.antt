@@ -1,0 +1,4 @@
+pub mod Bytes
+pub mod Lowest
+pub mod Questions
+pub mod Refusals
