@@ -1,0 +1,4 @@
+pub mod Meant
+pub mod Spans
+pub mod States
+pub mod StepRows

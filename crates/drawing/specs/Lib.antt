@@ -1,0 +1,4 @@
+pub mod Layout
+pub mod Meaning
+pub mod Opening
+pub mod Stored
