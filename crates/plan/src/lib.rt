@@ -7,6 +7,7 @@ ghost use Rattle.plan.specs.Model.{Model, Lawful};
 pub mod answer;
 
 pub use answer::Answer;
+pub use answer::AnswerDisplay;
 
 // The seven questions that every plan answers. `meaning` says what the plan is; each answer is the
 // meaning's, for every argument, and is the same every time. Whoever makes a further kind shows the

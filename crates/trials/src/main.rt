@@ -1,0 +1,11 @@
+// Tries the file kinds at their edges. Each line has what was tried, the answer that is expected and the one that came.
+mod cases;
+mod make;
+mod trial;
+
+use std::io;
+
+fn main(rt: LibcRuntime) -> io::Result<()> {
+    trial::run(&rt, &cases::DRAWINGS)?;
+    trial::run(&rt, &cases::TABLES)
+}
