@@ -1,2 +1,4 @@
+pub mod Closings
 pub mod Laws
 pub mod Lists
+pub mod Pigeons
