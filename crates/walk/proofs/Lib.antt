@@ -1,0 +1,4 @@
+pub mod Absent
+pub mod Reaching
+pub mod Sets
+pub mod Ways

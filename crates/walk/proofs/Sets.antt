@@ -1,0 +1,38 @@
+-- Sets of states, kept as lists of yes and no.
+use mathlib.Core.Path.{_≡_, refl, sym, ap, subst, _∙_}
+use mathlib.Core.Logic.{_⊎_, _≢_, inl, inr, ⊎-elim}
+use mathlib.Core.Bool.{Bool, true, false}
+use mathlib.Core.List.{List}
+use Prim.Native.Nat.{ℕ, _<_, _≤_}
+use lib.ListN.{length, getD, set}
+use Rattle.std.proofs.shelf.Lists.{getD-set-same, getD-set-other, getD-past}
+use Rattle.std.proofs.shelf.Tests.{cases-eq, cases-lt, both-ways}
+use Rattle.walk.specs.Walking.{In}
+
+-- who is in a set has a place there
+pub in-within : (xs : List Bool) (u : ℕ) → In xs u → u < length xs
+in-within xs u there =
+    ⊎-elim
+    (λ (low : u < length xs). low)
+    (λ (high : length xs ≤ u). absurd (both-ways (getD xs u false) (getD-past xs u false high) there))
+    (cases-lt u (length xs))
+
+-- one more comes in
+pub in-new : (xs : List Bool) (i : ℕ) → i < length xs → In (set xs i true) i
+in-new xs i within = getD-set-same xs i true false within
+
+-- and the others stay
+pub in-old : (xs : List Bool) (i u : ℕ) → In xs u → In (set xs i true) u
+in-old xs i u there =
+    ⊎-elim
+    (λ (same : u ≡ i). subst (λ k. In (set xs k true) u) same (in-new xs u (in-within xs u there)))
+    (λ (other : u ≢ i). getD-set-other xs i u true false other ∙ there)
+    (cases-eq u i)
+
+-- nobody else came in
+pub in-cases : (xs : List Bool) (i u : ℕ) → In (set xs i true) u → (u ≡ i) ⊎ In xs u
+in-cases xs i u there =
+    ⊎-elim
+    (λ (same : u ≡ i). inl same)
+    (λ (other : u ≢ i). inr (sym (getD-set-other xs i u true false other) ∙ there))
+    (cases-eq u i)
