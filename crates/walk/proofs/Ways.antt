@@ -11,7 +11,7 @@ use Rattle.std.proofs.shelf.Tests.{cases-bool, cases-eq, cases-lt, both-ways}
 use Rattle.plan.specs.Model.{Model, Lawful}
 use Rattle.plan.specs.Runs.{Step, Unmarked, Leads}
 use Rattle.plan.specs.Runs.Leads.{by-step, through}
-use Rattle.walk.specs.Walking.{In, LedTo, Walked, Work, Room, Progress, Expanding, Spread, Loaded, Walking, after-reaching, absent}
+use Rattle.walk.specs.Walking.{In, LedTo, Walked, OnlyOne, LeadsInto, Work, Room, Progress, Expanding, Spread, Loaded, Walking, after-reaching, absent}
 use Rattle.walk.proofs.Absent.{absent-less, absent-most}
 use Rattle.walk.proofs.Sets.{in-within, in-new, in-old, in-cases}
 use Rattle.walk.proofs.Reaching.{room-after, at-stays, expanding-more}
@@ -181,3 +181,20 @@ pub loaded-at : (n i : ℕ) (first queued queued′ : List Bool) (queue queue′
 loaded-at n i first queued queued′ queue queue′ len len′ a b d loaded =
     subst (λ x. Loaded n first queued′ queue′ x i) (sym d)
     (subst (λ x. Loaded n first queued′ x len i) (sym b) (subst (λ x. Loaded n first x queue len i) (sym a) loaded))
+
+-- a state that leads anywhere is a state of the plan
+pub leads-from-below : (m : Model) → Lawful m → (s t : ℕ) → Leads m s t → s < m .states
+leads-from-below m laws s t (by-step h) =
+    ⊎-elim
+    (λ (low : s < m .states). low)
+    (λ (high : m .states ≤ s). absurd (omega (arith, h .1, ap length (laws .no-steps-past s high))))
+    (cases-lt s (m .states))
+leads-from-below m laws s t (through {u = u} l unmarked h) = leads-from-below m laws s u l
+
+-- a walk from the set of one state
+pub from-one : (m : Model) → Lawful m → (s : ℕ) (first reached : List Bool) → OnlyOne s first → Walked m first reached → LeadsInto m s reached
+from-one m laws s first reached one walked t =
+    (λ there.
+       let led = walked t .0 there in
+       subst (λ u. Leads m u t) (one (led .0) .0 (led .1) .0) (led .2),
+     λ leads. walked t .1 (s, one s .1 (refl, omega (arith, leads-from-below m laws s t leads, laws .few)), leads))

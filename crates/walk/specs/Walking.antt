@@ -8,7 +8,7 @@ use lib.Dec.{leb}
 use lib.ListN.{length, getD, set, take}
 use Rattle.std.specs.Orderings.{Decides}
 use Rattle.plan.specs.Model.{Model}
-use Rattle.plan.specs.Runs.{Step, Unmarked, Leads}
+use Rattle.plan.specs.Runs.{Step, Marked, Unmarked, Leads}
 
 -- the states of a set, kept as a list of yes and no
 abbrev pub In : List Bool → ℕ → Type 0
@@ -100,3 +100,15 @@ pub record Walking (m : Model) (first : List Bool) (w : Work) (done : ℕ) : Typ
   pub has-room : Room (m .states) w
   pub come-so-far : Progress m first w done
   pub not-past : done ≤ w .len
+
+-- the set of one state; a state past the last place is in no set
+abbrev pub OnlyOne : ℕ → List Bool → Type 0
+OnlyOne s states = (u : ℕ) → Decides (getD states u false) ((u ≡ s) × (u < 128))
+
+-- exactly the states that s leads to
+abbrev pub LeadsInto : Model → ℕ → List Bool → Type 0
+LeadsInto m s reached = (t : ℕ) → Decides (getD reached t false) (Leads m s t)
+
+-- exactly the states that some marked state leads to
+abbrev pub MarkedLeadInto : Model → List Bool → Type 0
+MarkedLeadInto m reached = (t : ℕ) → Decides (getD reached t false) ((s : ℕ) × Marked m s × Leads m s t)

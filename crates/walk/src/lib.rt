@@ -8,6 +8,11 @@ ghost use lib.ListN.{length, getD};
 ghost use Rattle.walk.specs.Walking.{Work, Room, Reached, Spread, Loaded, Walked, enough};
 use plan::Plan;
 
+mod from;
+
+pub use from::led_from;
+pub use from::led_from_marked;
+
 // Takes every state out of a set.
 fn clear(states: &mut [bool])
     ensures { λ _. ⌜ ((k : ℕ) → getD (now (states .exit)) k false ≡ false) ⌝ }
