@@ -27,8 +27,8 @@ module _ (m : Model) where
       ⊎-elim
       (λ (closing : m .mark w ≡ true). (w, closing, by-step h))
       (λ (between : m .mark w ≡ false).
-        let before = led-to s w marked r between in
-        (before .0, before .1, through (before .2) between h))
+      let before = led-to s w marked r between in
+      (before .0, before .1, through (before .2) between h))
       (cases-bool (m .mark w))
 
   module _ (laws : Lawful m) where
@@ -65,49 +65,50 @@ module _ (m : Model) where
       ⊎-elim
       (λ there. inl (there .0, there .1, omega (arith, there .2), there .3))
       (λ none.
-        ⊎-elim
-        (λ (marked : m .mark (getD states (k + d) 0) ≡ true). inl (k + d, omega arith, omega arith, marked))
-        (λ (unmarked : m .mark (getD states (k + d) 0) ≡ false).
-          inr (λ i low high.
-            ⊎-elim
-            (λ (before : i < k + d). none i low before)
-            (λ (last : k + d ≤ i). let e : k + d ≡ i = omega (arith, high) in subst (λ j. Unmarked m (getD states j 0)) e unmarked)
-            (cases-lt i (k + d))))
-        (cases-bool (m .mark (getD states (k + d) 0))))
+      ⊎-elim
+      (λ (marked : m .mark (getD states (k + d) 0) ≡ true). inl (k + d, omega arith, omega arith, marked))
+      (λ (unmarked : m .mark (getD states (k + d) 0) ≡ false).
+      inr (λ i low high.
+      ⊎-elim
+      (λ (before : i < k + d). none i low before)
+      (λ (last : k + d ≤ i). let e : k + d ≡ i = omega (arith, high) in subst (λ j. Unmarked m (getD states j 0)) e unmarked)
+      (cases-lt i (k + d))))
+      (cases-bool (m .mark (getD states (k + d) 0))))
       (closing-in states k d)
 
   -- the theorem
   pub keeps-closing : Lawful m → Sound m → KeepsClosing m
-  keeps-closing laws sound states run =
-      (λ k long.
-         ⊎-elim
-         (λ there. there)
-         (λ none.
-           let at : ℕ → ℕ = λ i. getD states (k + i) 0 in
-           let never : (i : ℕ) → i < 128 → at i ≡ m .start → ⊥ =
-               λ i low e. both-ways (m .mark (m .start)) (subst (λ s. m .mark s ≡ false) e (none (k + i) (omega arith) (omega arith))) (sound .start-marked) in
-           let twice : Twice at 128 = pigeons-but (m .states) 128 (m .start) at (laws .begins) (λ i low. run-below laws states run (k + i) (omega arith)) never (laws .few) in
-           let i = twice .0 in
-           let j = twice .1 in
-           let d : ℕ = j - i - 1 in
-           let order : i < j = twice .2 in
-           let inside : j < 128 = twice .3 in
-           let gap : k + i + suc d ≡ k + j = omega arith in
-           let circle : Leads m (at i) (getD states (k + i + suc d) 0) =
-               part-leads laws states run (k + i) d (omega arith) (λ p after before. none p (omega arith) (omega arith)) in
-           let back : Leads m (at i) (at i) =
-               subst (λ t. Leads m (at i) t) (ap (λ p. getD states p 0) gap ∙ sym (twice .4)) circle in
-           absurd
-           (sound .none-circling (at i)
-            ((none (k + i) (omega arith) (omega arith), (m .start, sound .start-marked, run-reaches laws states run (k + i) (omega arith))), back)))
-         (closing-in states k 128),
-       λ halts.
-         let some : 0 < length states = run .some-state in
-         let last : ℕ = length states - 1 in
-         ⊎-elim
-         (λ (marked : m .mark (getD states last 0) ≡ true). marked)
-         (λ (unmarked : m .mark (getD states last 0) ≡ false).
-           absurd
-           (sound .none-stuck (getD states last 0)
-            ((unmarked, (m .start, sound .start-marked, run-reaches laws states run last (omega arith))), halts)))
-         (cases-bool (m .mark (getD states last 0))))
+  keeps-closing laws sound states run = (
+    λ k long.
+        ⊎-elim
+        (λ there. there)
+        (λ none.
+        let at : ℕ → ℕ = λ i. getD states (k + i) 0 in
+        let never : (i : ℕ) → i < 128 → at i ≡ m .start → ⊥ =
+        λ i low e. both-ways (m .mark (m .start)) (subst (λ s. m .mark s ≡ false) e (none (k + i) (omega arith) (omega arith))) (sound .start-marked) in
+        let twice : Twice at 128 = pigeons-but (m .states) 128 (m .start) at (laws .begins) (λ i low. run-below laws states run (k + i) (omega arith)) never (laws .few) in
+        let i = twice .0 in
+        let j = twice .1 in
+        let d : ℕ = j - i - 1 in
+        let order : i < j = twice .2 in
+        let inside : j < 128 = twice .3 in
+        let gap : k + i + suc d ≡ k + j = omega arith in
+        let circle : Leads m (at i) (getD states (k + i + suc d) 0) =
+        part-leads laws states run (k + i) d (omega arith) (λ p after before. none p (omega arith) (omega arith)) in
+        let back : Leads m (at i) (at i) =
+        subst (λ t. Leads m (at i) t) (ap (λ p. getD states p 0) gap ∙ sym (twice .4)) circle in
+        absurd
+        (sound .none-circling (at i)
+        ((none (k + i) (omega arith) (omega arith), (m .start, sound .start-marked, run-reaches laws states run (k + i) (omega arith))), back)))
+        (closing-in states k 128),
+    λ halts.
+        let some : 0 < length states = run .some-state in
+        let last : ℕ = length states - 1 in
+        ⊎-elim
+        (λ (marked : m .mark (getD states last 0) ≡ true). marked)
+        (λ (unmarked : m .mark (getD states last 0) ≡ false).
+        absurd
+        (sound .none-stuck (getD states last 0)
+        ((unmarked, (m .start, sound .start-marked, run-reaches laws states run last (omega arith))), halts)))
+        (cases-bool (m .mark (getD states last 0))),
+  )

@@ -19,15 +19,15 @@ found f v (suc k) =
     ⊎-elim
     (λ there. inl (there .0, omega (arith, there .1), there .2))
     (λ none.
-      ⊎-elim
-      (λ (here : f k ≡ v). inl (k, omega arith, here))
-      (λ (other : f k ≡ v → ⊥).
-        inr (λ i low e.
-          ⊎-elim
-          (λ (last : i ≡ k). other (ap f (sym last) ∙ e))
-          (λ (not-last : i ≡ k → ⊥). none i (omega (arith, not-last)) e)
-          (cases-eq i k)))
-      (cases-eq (f k) v))
+    ⊎-elim
+    (λ (here : f k ≡ v). inl (k, omega arith, here))
+    (λ (other : f k ≡ v → ⊥).
+    inr (λ i low e.
+    ⊎-elim
+    (λ (last : i ≡ k). other (ap f (sym last) ∙ e))
+    (λ (not-last : i ≡ k → ⊥). none i (omega (arith, not-last)) e)
+    (cases-eq i k)))
+    (cases-eq (f k) v))
     (found f v k)
 
 -- the numbers but v, moved up to close the gap
@@ -47,9 +47,9 @@ pigeons (suc n) (suc k) f below more =
     ⊎-elim
     (λ there. (there .0, k, there .1, omega arith, there .2))
     (λ none.
-      let rest : Twice (λ i. squeezed (f k) (f i)) k =
-          pigeons n k (λ i. squeezed (f k) (f i)) (λ i low. squeezed-below (f k) (f i) n (below k (omega arith)) (below i (omega arith)) (none i low)) (omega arith) in
-      (rest .0, rest .1, rest .2, omega (arith, rest .3), squeezed-same (f k) (f (rest .0)) (f (rest .1)) (none (rest .0) (omega (arith, rest .2, rest .3))) (none (rest .1) (rest .3)) (rest .4)))
+    let rest : Twice (λ i. squeezed (f k) (f i)) k =
+    pigeons n k (λ i. squeezed (f k) (f i)) (λ i low. squeezed-below (f k) (f i) n (below k (omega arith)) (below i (omega arith)) (none i low)) (omega arith) in
+    (rest .0, rest .1, rest .2, omega (arith, rest .3), squeezed-same (f k) (f (rest .0)) (f (rest .1)) (none (rest .0) (omega (arith, rest .2, rest .3))) (none (rest .1) (rest .3)) (rest .4)))
     (found f (f k) k)
 
 -- the same where one value below n is never taken

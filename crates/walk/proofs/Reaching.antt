@@ -34,22 +34,22 @@ by-fresh : (m : Model) (w : Work) (t : ℕ) (P : Work → Type 0)
     → P (after-reaching m w t)
 by-fresh m w t P fresh stale =
     let at : Bool → Work = λ v. record {
-          reached = set (w .reached) t true;
-          queued = cond v (set (w .queued) t true) (w .queued);
-          queue = cond v (set (w .queue) (w .len) t) (w .queue);
-          len = cond v (w .len + 1) (w .len);
-        } in
+      reached = set (w .reached) t true;
+      queued = cond v (set (w .queued) t true) (w .queued);
+      queue = cond v (set (w .queue) (w .len) t) (w .queue);
+      len = cond v (w .len + 1) (w .len);
+    } in
     ⊎-elim
     (λ (yes-fresh : is-fresh m w t ≡ true).
-      let parts = and-parts (not (m .mark t)) (not (getD (w .queued) t false)) yes-fresh in
-      subst (λ v. P (at v)) (sym yes-fresh) (fresh (not-true (m .mark t) (parts .0)) (not-true (getD (w .queued) t false) (parts .1))))
+    let parts = and-parts (not (m .mark t)) (not (getD (w .queued) t false)) yes-fresh in
+    subst (λ v. P (at v)) (sym yes-fresh) (fresh (not-true (m .mark t) (parts .0)) (not-true (getD (w .queued) t false) (parts .1))))
     (λ (not-fresh : is-fresh m w t ≡ false).
-      subst (λ v. P (at v)) (sym not-fresh)
-      (stale (λ unmarked.
-        ⊎-elim
-        (λ (marked : not (m .mark t) ≡ false). absurd (both-ways (m .mark t) unmarked (not-false (m .mark t) marked)))
-        (λ (was : not (getD (w .queued) t false) ≡ false). not-false (getD (w .queued) t false) was)
-        (and-cases (not (m .mark t)) (not (getD (w .queued) t false)) not-fresh))))
+    subst (λ v. P (at v)) (sym not-fresh)
+    (stale (λ unmarked.
+    ⊎-elim
+    (λ (marked : not (m .mark t) ≡ false). absurd (both-ways (m .mark t) unmarked (not-false (m .mark t) marked)))
+    (λ (was : not (getD (w .queued) t false) ≡ false). not-false (getD (w .queued) t false) was)
+    (and-cases (not (m .mark t)) (not (getD (w .queued) t false)) not-fresh))))
     (cases-bool (is-fresh m w t))
 
 -- there is still room
@@ -93,10 +93,10 @@ module _ (m : Model) (first : List Bool) (w : Work) (at i t : ℕ) (room : Room 
     queued-stand = expanding .progress .queued-stand;
     first-queued = expanding .progress .first-queued;
     reached-queued = λ u there unmarked.
-      ⊎-elim
-      (λ (same : u ≡ t). subst (In (w .queued)) (sym same) (stale (subst (Unmarked m) same unmarked)))
-      (λ (old : In (w .reached) u). expanding .progress .reached-queued u old unmarked)
-      (in-cases (w .reached) t u there);
+        ⊎-elim
+        (λ (same : u ≡ t). subst (In (w .queued)) (sym same) (stale (subst (Unmarked m) same unmarked)))
+        (λ (old : In (w .reached) u). expanding .progress .reached-queued u old unmarked)
+        (in-cases (w .reached) t u there);
     expanded = λ k low v h. in-old (w .reached) t v (expanding .progress .expanded k low v h);
   }
 
@@ -112,28 +112,28 @@ module _ (m : Model) (first : List Bool) (w : Work) (at i t : ℕ) (room : Room 
       record {
         marks-true = marks-more;
         queue-true = λ k low.
-          ⊎-elim
-          (λ (old : k < w .len). subst right (sym (kept-place k old)) (expanding .progress .queue-true k old))
-          (λ (last : w .len ≤ k).
+            ⊎-elim
+            (λ (old : k < w .len). subst right (sym (kept-place k old)) (expanding .progress .queue-true k old))
+            (λ (last : w .len ≤ k).
             let e : w .len ≡ k = omega arith in
             subst (λ j. right (getD (set (w .queue) (w .len) t) j 0)) e (subst right (sym new-place) (inr (led, unmarked))))
-          (cases-lt k (w .len));
+            (cases-lt k (w .len));
         queued-stand = λ u there.
-          ⊎-elim
-          (λ (same : u ≡ t). (w .len, omega arith, new-place ∙ sym same))
-          (λ (old : In (w .queued) u).
+            ⊎-elim
+            (λ (same : u ≡ t). (w .len, omega arith, new-place ∙ sym same))
+            (λ (old : In (w .queued) u).
             let before = expanding .progress .queued-stand u old in
             (before .0, omega (arith, before .1), kept-place (before .0) (before .1) ∙ before .2))
-          (in-cases (w .queued) t u there);
+            (in-cases (w .queued) t u there);
         first-queued = λ s low there. in-old (w .queued) t s (expanding .progress .first-queued s low there);
         reached-queued = λ u there un.
-          ⊎-elim
-          (λ (same : u ≡ t). subst (In (set (w .queued) t true)) (sym same) (in-new (w .queued) t (omega (arith, room .queued-long))))
-          (λ (old : In (w .reached) u). in-old (w .queued) t u (expanding .progress .reached-queued u old un))
-          (in-cases (w .reached) t u there);
+            ⊎-elim
+            (λ (same : u ≡ t). subst (In (set (w .queued) t true)) (sym same) (in-new (w .queued) t (omega (arith, room .queued-long))))
+            (λ (old : In (w .reached) u). in-old (w .queued) t u (expanding .progress .reached-queued u old un))
+            (in-cases (w .reached) t u there);
         expanded = λ k low v h.
-          in-old (w .reached) t v
-          (expanding .progress .expanded k low v (subst (λ x. Step m x v) (kept-place k (omega (arith, expanding .standing))) h));
+            in-old (w .reached) t v
+            (expanding .progress .expanded k low v (subst (λ x. Step m x v) (kept-place k (omega (arith, expanding .standing))) h));
       }
 
   -- the queue's place `at` stays
@@ -145,14 +145,14 @@ module _ (m : Model) (first : List Bool) (w : Work) (at i t : ℕ) (room : Room 
   expanding-more is =
       let steps-at : List ℕ = m .steps (getD (w .queue) at 0) in
       let far : (j : ℕ) → j < i + 1 → In (set (w .reached) t true) (getD steps-at j 0) =
-          below-more (λ j. In (set (w .reached) t true) (getD steps-at j 0)) i
-          (λ j low. in-old (w .reached) t (getD steps-at j 0) (expanding .so-far j low))
-          (subst (In (set (w .reached) t true)) (sym is) (in-new (w .reached) t (omega (arith, room .reached-long)))) in
+      below-more (λ j. In (set (w .reached) t true) (getD steps-at j 0)) i
+      (λ j low. in-old (w .reached) t (getD steps-at j 0) (expanding .so-far j low))
+      (subst (In (set (w .reached) t true)) (sym is) (in-new (w .reached) t (omega (arith, room .reached-long)))) in
       by-fresh m w t (λ v. Expanding m first v at (i + 1))
       (λ unmarked out. record {
         progress = fresh-more unmarked out;
         standing = omega (arith, expanding .standing);
         so-far = λ j low.
-          subst (λ x. In (set (w .reached) t true) (getD (m .steps x) j 0)) (sym (kept-place at (expanding .standing))) (far j low);
+            subst (λ x. In (set (w .reached) t true) (getD (m .steps x) j 0)) (sym (kept-place at (expanding .standing))) (far j low);
       })
       (λ stale. record { progress = stale-more stale; standing = expanding .standing; so-far = far })

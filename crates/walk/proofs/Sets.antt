@@ -47,15 +47,17 @@ empty-set n u =
     (cases-lt u n)
 
 pub only-there : (s : ℕ) → s < 128 → OnlyOne s (set (replicate 128 false) s true)
-only-there s low u =
-    (λ there.
-       ⊎-elim
-       (λ (same : u ≡ s). (same, omega arith))
-       (λ (old : In (replicate 128 false) u). absurd (both-ways _ (empty-set 128 u) old))
-       (in-cases (replicate 128 false) s u there),
-     λ is. subst (In (set (replicate 128 false) s true)) (sym (is .0)) (in-new (replicate 128 false) s (rw length-replicate low)))
+only-there s low u = (
+  λ there.
+      ⊎-elim
+      (λ (same : u ≡ s). (same, omega arith))
+      (λ (old : In (replicate 128 false) u). absurd (both-ways _ (empty-set 128 u) old))
+      (in-cases (replicate 128 false) s u there),
+  λ is. subst (In (set (replicate 128 false) s true)) (sym (is .0)) (in-new (replicate 128 false) s (rw length-replicate low)),
+)
 
 pub only-nowhere : (s : ℕ) → 128 ≤ s → OnlyOne s (replicate 128 false)
-only-nowhere s high u =
-    (λ there. absurd (both-ways _ (empty-set 128 u) there),
-     λ is. absurd (omega (arith, is .0, is .1)))
+only-nowhere s high u = (
+  λ there. absurd (both-ways _ (empty-set 128 u) there),
+  λ is. absurd (omega (arith, is .0, is .1)),
+)

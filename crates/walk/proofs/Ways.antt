@@ -28,11 +28,12 @@ spread-more m state i t w v laws low is spread =
     record {
       room-stays = room-after m v t (spread .room-stays) below;
       spreads = λ first at here expanding.
-        let before = spread .spreads first at here expanding in
-        let step : Step m (getD (v .queue) at 0) t = subst (λ s. Step m s t) (sym (before .1)) (i, low, sym is) in
-        let named : getD (m .steps (getD (v .queue) at 0)) i 0 ≡ t = ap (λ s. getD (m .steps s) i 0) (before .1) ∙ sym is in
-        (expanding-more m first v at i t (spread .room-stays) below (before .0) step named,
-         at-stays m first v at i t (spread .room-stays) below (before .0) step ∙ before .1);
+          let before = spread .spreads first at here expanding in
+          let step : Step m (getD (v .queue) at 0) t = subst (λ s. Step m s t) (sym (before .1)) (i, low, sym is) in
+          let named : getD (m .steps (getD (v .queue) at 0)) i 0 ≡ t = ap (λ s. getD (m .steps s) i 0) (before .1) ∙ sym is in (
+            expanding-more m first v at i t (spread .room-stays) below (before .0) step named,
+            at-stays m first v at i t (spread .room-stays) below (before .0) step ∙ before .1,
+          );
     }
 
 -- before the first state is put into the queue
@@ -59,10 +60,10 @@ module _ (n : ℕ) (first queued : List Bool) (queue : List ℕ) (len i : ℕ) (
     loaded-low = λ u there. omega (arith, loaded .loaded-low u there);
     loaded-stand = loaded .loaded-stand;
     loaded-first = λ s below there.
-      ⊎-elim
-      (λ (same : s ≡ i). absurd (other (subst (In first) same there)))
-      (λ (earlier : s ≢ i). loaded .loaded-first s (omega (arith, earlier)) there)
-      (cases-eq s i);
+        ⊎-elim
+        (λ (same : s ≡ i). absurd (other (subst (In first) same there)))
+        (λ (earlier : s ≢ i). loaded .loaded-first s (omega (arith, earlier)) there)
+        (cases-eq s i);
   }
 
   -- state i is not in the queue yet
@@ -86,29 +87,29 @@ module _ (n : ℕ) (first queued : List Bool) (queue : List ℕ) (len i : ℕ) (
         queue-there = omega (arith, loaded .queue-there, length-set queue len i);
         places-left = omega (arith, loaded .places-left, absent-less n queued i low (omega (arith, loaded .queued-there)) not-yet);
         loaded-true = λ k below.
-          ⊎-elim
-          (λ (old : k < len). subst (In first) (sym (kept-place k old)) (loaded .loaded-true k old))
-          (λ (last : len ≤ k).
+            ⊎-elim
+            (λ (old : k < len). subst (In first) (sym (kept-place k old)) (loaded .loaded-true k old))
+            (λ (last : len ≤ k).
             let e : len ≡ k = omega arith in
             subst (λ j. In first (getD (set queue len i) j 0)) e (subst (In first) (sym new-place) here))
-          (cases-lt k len);
+            (cases-lt k len);
         loaded-low = λ u there.
-          ⊎-elim
-          (λ (same : u ≡ i). omega arith)
-          (λ (old : In queued u). omega (arith, loaded .loaded-low u old))
-          (in-cases queued i u there);
+            ⊎-elim
+            (λ (same : u ≡ i). omega arith)
+            (λ (old : In queued u). omega (arith, loaded .loaded-low u old))
+            (in-cases queued i u there);
         loaded-stand = λ u there.
-          ⊎-elim
-          (λ (same : u ≡ i). (len, omega arith, new-place ∙ sym same))
-          (λ (old : In queued u).
+            ⊎-elim
+            (λ (same : u ≡ i). (len, omega arith, new-place ∙ sym same))
+            (λ (old : In queued u).
             let before = loaded .loaded-stand u old in
             (before .0, omega (arith, before .1), kept-place (before .0) (before .1) ∙ before .2))
-          (in-cases queued i u there);
+            (in-cases queued i u there);
         loaded-first = λ s below there.
-          ⊎-elim
-          (λ (same : s ≡ i). subst (In (set queued i true)) (sym same) (in-new queued i (omega (arith, loaded .queued-there))))
-          (λ (earlier : s ≢ i). in-old queued i s (loaded .loaded-first s (omega (arith, earlier)) there))
-          (cases-eq s i);
+            ⊎-elim
+            (λ (same : s ≡ i). subst (In (set queued i true)) (sym same) (in-new queued i (omega (arith, loaded .queued-there))))
+            (λ (earlier : s ≢ i). in-old queued i s (loaded .loaded-first s (omega (arith, earlier)) there))
+            (cases-eq s i);
       }
 
 module _ (m : Model) (laws : Lawful m) (first : List Bool) where
@@ -144,14 +145,14 @@ module _ (m : Model) (laws : Lawful m) (first : List Bool) where
           first-queued = after .0 .progress .first-queued;
           reached-queued = after .0 .progress .reached-queued;
           expanded = λ k below t h.
-            ⊎-elim
-            (λ (earlier : k < done). after .0 .progress .expanded k earlier t h)
-            (λ (last : done ≤ k).
+              ⊎-elim
+              (λ (earlier : k < done). after .0 .progress .expanded k earlier t h)
+              (λ (last : done ≤ k).
               let e : k ≡ done = omega arith in
               let h′ : Step m (getD (v .queue) done 0) t = subst (λ j. Step m (getD (v .queue) j 0) t) e h in
               let long : h′ .0 < length (m .steps (getD (w .queue) done 0)) = subst (λ s. h′ .0 < length (m .steps s)) (after .1) (h′ .1) in
               subst (In (v .reached)) (h′ .2) (after .0 .so-far (h′ .0) long))
-            (cases-lt k done);
+              (cases-lt k done);
         };
         not-past = omega (arith, after .0 .standing);
       }
@@ -160,10 +161,10 @@ module _ (m : Model) (laws : Lawful m) (first : List Bool) where
   all-reached : (w : Work) (done : ℕ) → Progress m first w done → w .len ≤ done → (s t : ℕ) → In first s → Leads m s t → In (w .reached) t
   all-reached w done progress end s t there (by-step h) =
       let low : s < m .states =
-          ⊎-elim
-          (λ (x : s < m .states). x)
-          (λ (high : m .states ≤ s). absurd (omega (arith, h .1, ap length (laws .no-steps-past s high))))
-          (cases-lt s (m .states)) in
+      ⊎-elim
+      (λ (x : s < m .states). x)
+      (λ (high : m .states ≤ s). absurd (omega (arith, h .1, ap length (laws .no-steps-past s high))))
+      (cases-lt s (m .states)) in
       let stands = progress .queued-stand s (progress .first-queued s low there) in
       progress .expanded (stands .0) (omega (arith, stands .1)) t (subst (λ x. Step m x t) (sym (stands .2)) h)
   all-reached w done progress end s t there (through {u = u} l unmarked h) =
@@ -171,9 +172,10 @@ module _ (m : Model) (laws : Lawful m) (first : List Bool) where
       progress .expanded (stands .0) (omega (arith, stands .1)) t (subst (λ x. Step m x t) (sym (stands .2)) h)
 
   pub walked-all : (w : Work) (done : ℕ) → Walking m first w done → w .len ≤ done → Walked m first (w .reached)
-  walked-all w done walking end t =
-      (walking .come-so-far .marks-true t,
-       λ led. all-reached w done (walking .come-so-far) end (led .0) t (led .1) (led .2))
+  walked-all w done walking end t = (
+    walking .come-so-far .marks-true t,
+    λ led. all-reached w done (walking .come-so-far) end (led .0) t (led .1) (led .2),
+  )
 
 -- the same under other names
 pub loaded-at : (n i : ℕ) (first queued queued′ : List Bool) (queue queue′ : List ℕ) (len len′ : ℕ) → queued′ ≡ queued → queue′ ≡ queue → len′ ≡ len
@@ -193,8 +195,9 @@ leads-from-below m laws s t (through {u = u} l unmarked h) = leads-from-below m 
 
 -- a walk from the set of one state
 pub from-one : (m : Model) → Lawful m → (s : ℕ) (first reached : List Bool) → OnlyOne s first → Walked m first reached → LeadsInto m s reached
-from-one m laws s first reached one walked t =
-    (λ there.
-       let led = walked t .0 there in
-       subst (λ u. Leads m u t) (one (led .0) .0 (led .1) .0) (led .2),
-     λ leads. walked t .1 (s, one s .1 (refl, omega (arith, leads-from-below m laws s t leads, laws .few)), leads))
+from-one m laws s first reached one walked t = (
+  λ there.
+      let led = walked t .0 there in
+      subst (λ u. Leads m u t) (one (led .0) .0 (led .1) .0) (led .2),
+  λ leads. walked t .1 (s, one s .1 (refl, omega (arith, leads-from-below m laws s t leads, laws .few)), leads),
+)

@@ -23,7 +23,14 @@ fn clear(states: &mut [bool])
 }
 
 // Marks a state as reached, and puts it into the queue if it is unmarked and was never there. Gives the queue's length.
-fn reach<P: Plan>(plan: &P, state: usize, reached: &mut [bool], queued: &mut [bool], queue: &mut [usize], len: usize) -> usize
+fn reach<P: Plan>(
+    plan: &P,
+    state: usize,
+    reached: &mut [bool],
+    queued: &mut [bool],
+    queue: &mut [usize],
+    len: usize,
+) -> usize
     requires { ⌜ Room (meaning (now plan) .states) (record { reached = now reached; queued = now queued; queue = now queue; len = len }) ⌝ ∗ ⌜ state < meaning (now plan) .states ⌝ }
     ensures { λ r. ⌜ Reached (meaning (now (plan .entry))) state (record { reached = now (reached .entry); queued = now (queued .entry); queue = now (queue .entry); len = len }) (record { reached = now (reached .exit); queued = now (queued .exit); queue = now (queue .exit); len = r }) ⌝ }
 {
@@ -37,7 +44,14 @@ fn reach<P: Plan>(plan: &P, state: usize, reached: &mut [bool], queued: &mut [bo
 }
 
 // Reaches every state that a state steps to. Gives the queue's length.
-fn expand<P: Plan>(plan: &P, state: usize, reached: &mut [bool], queued: &mut [bool], queue: &mut [usize], len: usize) -> usize
+fn expand<P: Plan>(
+    plan: &P,
+    state: usize,
+    reached: &mut [bool],
+    queued: &mut [bool],
+    queue: &mut [usize],
+    len: usize,
+) -> usize
     requires { ⌜ Room (meaning (now plan) .states) (record { reached = now reached; queued = now queued; queue = now queue; len = len }) ⌝ }
     ensures { λ r. ⌜ Spread (meaning (now (plan .entry))) state (length (meaning (now (plan .entry)) .steps state)) (record { reached = now (reached .entry); queued = now (queued .entry); queue = now (queue .entry); len = len }) (record { reached = now (reached .exit); queued = now (queued .exit); queue = now (queue .exit); len = r }) ⌝ }
 {
@@ -48,8 +62,8 @@ fn expand<P: Plan>(plan: &P, state: usize, reached: &mut [bool], queued: &mut [b
     waiting
 }
 
-// Is this state in the set?
-fn has(states: &[bool], state: usize) -> bool
+// Is this state in the set? A set of states is kept as a slice of yes and no, by state.
+pub fn has(states: &[bool], state: usize) -> bool
     ensures { λ r. ⌜ r ≡ getD (now (states .entry)) state false ⌝ }
 {
     match states.get(state) {
@@ -77,7 +91,13 @@ fn load(first: &[bool], states: usize, queued: &mut [bool], queue: &mut [usize])
 // Walks from the first states, a set that is kept as a slice of yes and no, and marks exactly the states that they lead
 // to: by one or more steps, with only unmarked states between. The other two slices are work space. False, and nothing
 // touched, where one of the three is shorter than the plan has states.
-pub fn walk<P: Plan>(plan: &P, first: &[bool], reached: &mut [bool], queued: &mut [bool], queue: &mut [usize]) -> bool
+pub fn walk<P: Plan>(
+    plan: &P,
+    first: &[bool],
+    reached: &mut [bool],
+    queued: &mut [bool],
+    queue: &mut [usize],
+) -> bool
     ensures room { λ r. ⌜ r ≡ enough (meaning (now (plan .entry)) .states) (length (now (reached .entry))) (length (now (queued .entry))) (length (now (queue .entry))) ⌝ }
     ensures marks { λ r. ⌜ (r ≡ true → Walked (meaning (now (plan .entry))) (now (first .entry)) (now (reached .exit))) ⌝ }
     ensures untouched { λ r. ⌜ (r ≡ false → (now (reached .exit) ≡ now (reached .entry)) × (now (queued .exit) ≡ now (queued .entry)) × (now (queue .exit) ≡ now (queue .entry))) ⌝ }

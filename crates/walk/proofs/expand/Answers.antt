@@ -10,4 +10,4 @@ loop-i-again g c =
     let m = g .P·Plan .meaning (c .args .plan .now) in
     subst (Spread m (c .args .state) (c .loop-i .i + 1) _) (sym (c .reach-waiting .ensures))
     (spread-more m (c .args .state) (c .loop-i .i) (c .step .result) _ _ (g .P·Plan·met .lawful (c .args .plan .now))
-     (omega (arith, c .step-count-i-end .ensures)) (c .step .ensures) (c .loop-i .inv))
+    (omega (arith, c .step-count-i-end .ensures)) (c .step .ensures) (c .loop-i .inv))

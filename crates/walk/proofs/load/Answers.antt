@@ -13,13 +13,13 @@ index-queue-len c = load-place _ _ _ _ _ _ (c .loop-s .inv) (c .loop-s-test .tak
 
 pub loop-s-again : need.loop-s-again
 loop-s-again c =
-    elim (c .if-has .came)
-    [ then-has w ↦
-      loaded-at (c .args .states) (c .loop-s .s + 1) (c .args .first .now) _ (c .if-has .queued) _ (c .if-has .queue) _ (c .if-has .len)
-      (w .queued-is) (w .queue-is) (w .len-is)
-      (load-more _ _ _ _ _ _ (c .loop-s .inv) (c .loop-s-test .taken) (sym (w .if-has .ensures tt)))
-    | else-has w ↦
-      loaded-at (c .args .states) (c .loop-s .s + 1) (c .args .first .now) _ (c .if-has .queued) _ (c .if-has .queue) _ (c .if-has .len)
-      (w .queued-is) (w .queue-is) (w .len-is)
-      (load-other _ _ _ _ _ _ (c .loop-s .inv) (c .loop-s-test .taken) (both-ways _ (sym (w .if-has .ensures tt))))
+    elim (c .if-has .came) [
+      | then-has w ↦
+          loaded-at (c .args .states) (c .loop-s .s + 1) (c .args .first .now) _ (c .if-has .queued) _ (c .if-has .queue) _ (c .if-has .len)
+          (w .queued-is) (w .queue-is) (w .len-is)
+          (load-more _ _ _ _ _ _ (c .loop-s .inv) (c .loop-s-test .taken) (sym (w .if-has .ensures tt)))
+      | else-has w ↦
+          loaded-at (c .args .states) (c .loop-s .s + 1) (c .args .first .now) _ (c .if-has .queued) _ (c .if-has .queue) _ (c .if-has .len)
+          (w .queued-is) (w .queue-is) (w .len-is)
+          (load-other _ _ _ _ _ _ (c .loop-s .inv) (c .loop-s-test .taken) (both-ways _ (sym (w .if-has .ensures tt))))
     ]
