@@ -9,7 +9,8 @@ use std::io::Read;
 // A longer file is refused for its length, so no more of it is read.
 const MOST: u64 = 40_001;
 
-// The bytes of a file of the working folder, as many as matter. A file that is missing is read as an empty one.
+// The bytes of a file of the working folder, as many as matter. A file that is missing is read as an empty one; one that
+// is there and cannot be read is an error.
 fn read_file(rt: &LibcRuntime, name: &str) -> io::Result<Vec<u8>> {
     let mut bytes = Vec::new(rt.alloc());
     match File::open(rt, name) {
@@ -27,11 +28,15 @@ fn read_file(rt: &LibcRuntime, name: &str) -> io::Result<Vec<u8>> {
 fn main(rt: LibcRuntime) -> io::Result<()> {
     let drawing = read_file(&rt, "drawing.dp")?;
     let table = read_file(&rt, "logger.tb")?;
-    let answers = check_folder(&drawing, &table);
+    let gauge = read_file(&rt, "gauge.tb")?;
+    let answers = check_folder(&drawing, &table, &gauge);
     let drawing = answers.drawing;
     println!(rt, "D {drawing}")?;
     if let Some(table) = answers.table {
         println!(rt, "L {table}")?;
+    }
+    if let Some(gauge) = answers.gauge {
+        println!(rt, "G {gauge}")?;
     }
     Ok(())
 }

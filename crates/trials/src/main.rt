@@ -1,11 +1,13 @@
-// Tries the file kinds at their edges. Each line has what was tried, the answer that is expected and the one that came.
+// Tries the file kinds at their edges, vetting and joining. Each line has what was tried, the answer that is expected and the one that came.
 mod cases;
 mod make;
 mod trial;
+mod vettings;
 
 use std::io;
 
 fn main(rt: LibcRuntime) -> io::Result<()> {
     trial::run(&rt, &cases::DRAWINGS)?;
-    trial::run(&rt, &cases::TABLES)
+    trial::run(&rt, &cases::TABLES)?;
+    vettings::run(&rt)
 }

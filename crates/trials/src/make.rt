@@ -75,3 +75,36 @@ pub fn resize(bytes: &mut Vec<u8>, length: usize) -> Result<(), AllocError> {
     let missing = length - bytes.len();
     push_zeros(bytes, missing)
 }
+
+// A row of a table: flags, first target, second target. The code of a marked state is 5 more than its number.
+#[derive(Clone, Copy)]
+pub struct TableRow(pub u8, pub u8, pub u8);
+
+// A table of these rows.
+pub fn table_of(heap: Global, rows: &[TableRow]) -> Result<Vec<u8>, AllocError> {
+    let mut bytes = Vec::new(heap);
+    bytes.push(0x50)?;
+    bytes.push(0x4B)?;
+    push_word(&mut bytes, rows.len())?;
+    push_word(&mut bytes, 0)?;
+    push_word(&mut bytes, 8)?;
+    for (i, row) in rows.iter().enumerate() {
+        bytes.push(row.0)?;
+        bytes.push(row.1)?;
+        bytes.push(row.2)?;
+        bytes.push(0)?;
+        push_word(&mut bytes, if row.0 % 2 == 1 { (i % 256) + 5 } else { 0 })?;
+        push_word(&mut bytes, 0)?;
+    }
+    Ok(bytes)
+}
+
+// A table of 128 states: marked 0 to 1, unmarked 1 to 2, and so on, and 127 back to 0.
+pub fn chain(heap: Global) -> Result<Vec<u8>, AllocError> {
+    let mut rows = Vec::new(heap);
+    rows.push(TableRow(3, 1, 0))?;
+    for i in 1..128u8 {
+        rows.push(TableRow(2, (i + 1) % 128, 0))?;
+    }
+    table_of(heap, rows.as_slice())
+}

@@ -1,0 +1,3 @@
+pub mod Few
+pub mod Sides
+pub mod StepPairs
