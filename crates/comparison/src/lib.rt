@@ -3,9 +3,11 @@ use pairs::PairTable;
 use vet::Vetted;
 
 mod change;
+mod load;
 mod refusal;
 
 pub use refusal::LoadRefusal;
+pub use refusal::LoadRefusalFromFile;
 pub use refusal::PairRefusal;
 pub use refusal::Side;
 

@@ -2,6 +2,7 @@
 ghost use Prim.Native.Nat.{ℕ};
 ghost use mathlib.Core.Path.{_≡_};
 ghost use Rattle.comparison.specs.Calls.{side-number, pair-numbers, load-refusal-numbers};
+ghost use Rattle.comparison.specs.declared.refusal.LoadRefusal.the-variants.{BadFile};
 use layout::FileRefusal;
 use plan::Answer;
 
@@ -70,5 +71,13 @@ impl LoadRefusal {
             LoadRefusal::BadFile(refusal) => refusal.answer(),
             LoadRefusal::BadRow(row, refusal) => refusal.answer(row),
         }
+    }
+}
+
+pub impl From<FileRefusal> for LoadRefusal as LoadRefusalFromFile {
+    ghost converts = { λ e r. r ≡ BadFile e };
+
+    fn from(refusal: FileRefusal) -> LoadRefusal {
+        LoadRefusal::BadFile(refusal)
     }
 }
