@@ -2,10 +2,13 @@
 use pairs::PairTable;
 use vet::Vetted;
 
+mod calls;
 mod change;
 mod load;
 mod refusal;
 
+pub use calls::Call;
+pub use calls::TooShort;
 pub use refusal::LoadRefusal;
 pub use refusal::LoadRefusalFromFile;
 pub use refusal::PairRefusal;
