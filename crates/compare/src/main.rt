@@ -1,4 +1,5 @@
 // Checks the plan files of the working folder, and prints a line for each: its letter and the five numbers of the answer.
+use layout::LONGEST;
 use plan::AnswerDisplay;
 use session::check_folder;
 use std::fs::File;
@@ -6,8 +7,8 @@ use std::io;
 use std::io::ErrorKind;
 use std::io::Read;
 
-// A longer file is refused for its length, so no more of it is read.
-const MOST: u64 = 40_001;
+// One byte more than a file may have: a longer file is refused for its length, so no more of it is read.
+const MOST: u64 = LONGEST as u64 + 1;
 
 // The bytes of a file of the working folder, as many as matter. A file that is missing is read as an empty one; one that
 // is there and cannot be read is an error.

@@ -37,7 +37,7 @@ by-tests false b c d w x y z e = let q : _≡_ {A = ℕ} 0 1 = cc in absurd (ome
 pub allowed : (setting : Setting) (s t : ℕ) → pair-refused setting s t ≡ None → Allowed setting s t
 allowed setting s t e =
     let tests = by-tests (ltb s (setting .first .states)) (ltb t (setting .second .states)) (setting .first .mark s) (setting .second .mark t)
-        (NoState First) (NoState Second) (Unmarked First) (Unmarked Second) e in
+    (NoState First) (NoState Second) (Unmarked First) (Unmarked Second) e in
     record {
       first-exists = ltb-true s (setting .first .states) (tests .0);
       second-exists = ltb-true t (setting .second .states) (tests .1);
@@ -58,9 +58,10 @@ module _ (setting : Setting) (pairs : Pairs) where
   marked-with s t a old x y e =
       ⊎-elim
       (λ (here : is-pair s t x y ≡ true).
-        let both = and-parts (eqb x s) (eqb y t) here in
-        (subst (Marked (setting .first)) (sym (eqb-true x s (both .0))) (a .first-marked),
-         subst (Marked (setting .second)) (sym (eqb-true y t (both .1))) (a .second-marked)))
+      let both = and-parts (eqb x s) (eqb y t) here in (
+        subst (Marked (setting .first)) (sym (eqb-true x s (both .0))) (a .first-marked),
+        subst (Marked (setting .second)) (sym (eqb-true y t (both .1))) (a .second-marked),
+      ))
       (λ (there : pairs x y ≡ true). old x y there)
       (or-cases (is-pair s t x y) (pairs x y) e)
 
@@ -77,11 +78,13 @@ module _ (setting : Setting) (pairs new : Pairs) (s t : ℕ) (stood : Bool) (not
       → (new ≡ after-add setting pairs s t) × OnlyMarked setting new
   added few few′ is =
       let a = allowed setting s t (sym not-refused) in
-      let now-with : new ≡ with-pair pairs s t = is ∙ ap (λ v. cond v (with-pair pairs s t) pairs) (allowed-fits setting s t few few′ a) in
-      (now-with ∙ ap (λ o. unless-refused o (with-pair pairs s t) pairs) not-refused,
-       subst (OnlyMarked setting) (sym now-with) (marked-with setting pairs s t a marked))
+      let now-with : new ≡ with-pair pairs s t = is ∙ ap (λ v. cond v (with-pair pairs s t) pairs) (allowed-fits setting s t few few′ a) in (
+        now-with ∙ ap (λ o. unless-refused o (with-pair pairs s t) pairs) not-refused,
+        subst (OnlyMarked setting) (sym now-with) (marked-with setting pairs s t a marked),
+      )
 
   pub struck : new ≡ without-pair pairs s t → (new ≡ after-strike setting pairs s t) × OnlyMarked setting new
-  struck is =
-      (is ∙ ap (λ o. unless-refused o (without-pair pairs s t) pairs) not-refused,
-       subst (OnlyMarked setting) (sym is) (marked-without setting pairs s t marked))
+  struck is = (
+    is ∙ ap (λ o. unless-refused o (without-pair pairs s t) pairs) not-refused,
+    subst (OnlyMarked setting) (sym is) (marked-without setting pairs s t marked),
+  )

@@ -62,9 +62,10 @@ module _ (setting : Setting) where
     both-do i low = step-alike i low (same-pairs i (omega (arith, low))) .0
 
   pub one-history : OneHistory setting
-  one-history begin calls answers others after later one two =
-      (same-pairs begin calls answers others after later one two,
-       both-do begin calls answers others after later one two)
+  one-history begin calls answers others after later one two = (
+    same-pairs begin calls answers others after later one two,
+    both-do begin calls answers others after later one two,
+  )
 
   module _ (begin : Pairs) (calls : List Call) (before : List Answer) where
     -- before the first call
@@ -88,27 +89,30 @@ module _ (setting : Setting) where
         let within : i < length written = omega (arith, running .long) in
         record {
           long = length-set written i answer ∙ running .long;
-          so-far =
-            (then, up-to 0 (omega arith) ∙ running .so-far .1, last,
-             λ j h.
-               ⊎-elim
-               (λ (here : j ≡ i).
-                 let at-i : Does setting (then i) (getD calls i no-call) (getD (set written i answer) i no-answer) (then (i + 1)) =
-                     subst (λ (q : Pairs). Does setting (then i) (getD calls i no-call) (getD (set written i answer) i no-answer) q) (sym last)
-                     (subst (λ (x : Answer). Does setting (then i) (getD calls i no-call) x next) (sym (getD-set-same written i answer no-answer within))
-                      (subst (λ (p : Pairs). Does setting p (getD calls i no-call) answer next) (sym (up-to i (omega arith) ∙ running .so-far .2)) does)) in
-                 subst (λ (k : ℕ). Does setting (then k) (getD calls k no-call) (getD (set written i answer) k no-answer) (then (k + 1))) (sym here) at-i)
-               (λ (earlier : j ≢ i).
-                 let below : j < i = omega (arith, earlier) in
-                 subst (λ (q : Pairs). Does setting (then j) (getD calls j no-call) (getD (set written i answer) j no-answer) q) (sym (up-to (j + 1) (omega arith)))
-                 (subst (λ (x : Answer). Does setting (then j) (getD calls j no-call) x (after (j + 1))) (sym (getD-set-other written i j answer no-answer earlier))
-                  (subst (λ (p : Pairs). Does setting p (getD calls j no-call) (getD written j no-answer) (after (j + 1))) (sym (up-to j (omega arith))) (running .so-far .3 j below))))
-               (cases-eq j i));
+          so-far = (
+            then,
+            up-to 0 (omega arith) ∙ running .so-far .1,
+            last,
+            λ j h.
+                ⊎-elim
+                (λ (here : j ≡ i).
+                let at-i : Does setting (then i) (getD calls i no-call) (getD (set written i answer) i no-answer) (then (i + 1)) =
+                subst (λ (q : Pairs). Does setting (then i) (getD calls i no-call) (getD (set written i answer) i no-answer) q) (sym last)
+                (subst (λ (x : Answer). Does setting (then i) (getD calls i no-call) x next) (sym (getD-set-same written i answer no-answer within))
+                (subst (λ (p : Pairs). Does setting p (getD calls i no-call) answer next) (sym (up-to i (omega arith) ∙ running .so-far .2)) does)) in
+                subst (λ (k : ℕ). Does setting (then k) (getD calls k no-call) (getD (set written i answer) k no-answer) (then (k + 1))) (sym here) at-i)
+                (λ (earlier : j ≢ i).
+                let below : j < i = omega (arith, earlier) in
+                subst (λ (q : Pairs). Does setting (then j) (getD calls j no-call) (getD (set written i answer) j no-answer) q) (sym (up-to (j + 1) (omega arith)))
+                (subst (λ (x : Answer). Does setting (then j) (getD calls j no-call) x (after (j + 1))) (sym (getD-set-other written i j answer no-answer earlier))
+                (subst (λ (p : Pairs). Does setting p (getD calls j no-call) (getD written j no-answer) (after (j + 1))) (sym (up-to j (omega arith))) (running .so-far .3 j below))))
+                (cases-eq j i),
+          );
           not-yet =
-            drop-set-lt (i + 1) written i answer (omega arith)
-            ∙ sym (drop-drop 1 i written)
-            ∙ ap (drop 1) (running .not-yet)
-            ∙ drop-drop 1 i before;
+              drop-set-lt (i + 1) written i answer (omega arith)
+              ∙ sym (drop-drop 1 i written)
+              ∙ ap (drop 1) (running .not-yet)
+              ∙ drop-drop 1 i before;
         }
 
     -- all calls are made
@@ -117,9 +121,10 @@ module _ (setting : Setting) where
         let after : ℕ → Pairs = running .so-far .0 in
         record {
           places = places;
-          history =
-            (after,
-             record { begins = running .so-far .1; each = λ j low. running .so-far .3 j (omega (arith, low)) },
-             ap after (sym all) ∙ running .so-far .2);
+          history = (
+            after,
+            record { begins = running .so-far .1; each = λ j low. running .so-far .3 j (omega (arith, low)) },
+            ap after (sym all) ∙ running .so-far .2,
+          );
           behind = subst (λ k. drop k written ≡ drop k before) all (running .not-yet);
         }

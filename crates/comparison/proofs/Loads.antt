@@ -32,9 +32,10 @@ pub row-is : (b : List ℕ) (h : PairHeader) (i : ℕ) (row : ℕ × ℕ) → He
     → row ≡ cond (ltb i (h .count)) (byte-at b (h .rows + 2 * i), byte-at b (h .rows + 2 * i + 1)) (0, 0)
     → (row .0 ≡ first-in b i) × (row .1 ≡ second-in b i)
 row-is b h i row header low is =
-    let there : row ≡ (byte-at b (h .rows + 2 * i), byte-at b (h .rows + 2 * i + 1)) = is ∙ ap (λ t. cond t (byte-at b (h .rows + 2 * i), byte-at b (h .rows + 2 * i + 1)) (0, 0)) (lt-ltb i (h .count) low) in
-    (ap (λ r. r .0) there ∙ ap (λ k. byte-at b (k + 2 * i)) (header .rows-read),
-     ap (λ r. r .1) there ∙ ap (λ k. byte-at b (k + 2 * i + 1)) (header .rows-read))
+    let there : row ≡ (byte-at b (h .rows + 2 * i), byte-at b (h .rows + 2 * i + 1)) = is ∙ ap (λ t. cond t (byte-at b (h .rows + 2 * i), byte-at b (h .rows + 2 * i + 1)) (0, 0)) (lt-ltb i (h .count) low) in (
+      ap (λ r. r .0) there ∙ ap (λ k. byte-at b (k + 2 * i)) (header .rows-read),
+      ap (λ r. r .1) there ∙ ap (λ k. byte-at b (k + 2 * i + 1)) (header .rows-read),
+    )
 
 -- one row more in the table
 pub fill-more : (b : List ℕ) (i s t : ℕ) (old new : Pairs) → s ≡ first-in b i → t ≡ second-in b i → fits-table (first-in b i) (second-in b i) ≡ true
@@ -58,10 +59,11 @@ module _ (setting : Setting) (b : List ℕ) where
   rows-marked (suc i) rows x y e =
       ⊎-elim
       (λ (here : is-pair (first-in b i) (second-in b i) x y ≡ true).
-        let a = allowed setting (first-in b i) (second-in b i) (rows i (omega arith)) in
-        let both = and-parts (eqb x (first-in b i)) (eqb y (second-in b i)) here in
-        (subst (Marked (setting .first)) (sym (eqb-true x (first-in b i) (both .0))) (a .first-marked),
-         subst (Marked (setting .second)) (sym (eqb-true y (second-in b i) (both .1))) (a .second-marked)))
+      let a = allowed setting (first-in b i) (second-in b i) (rows i (omega arith)) in
+      let both = and-parts (eqb x (first-in b i)) (eqb y (second-in b i)) here in (
+        subst (Marked (setting .first)) (sym (eqb-true x (first-in b i) (both .0))) (a .first-marked),
+        subst (Marked (setting .second)) (sym (eqb-true y (second-in b i) (both .1))) (a .second-marked),
+      ))
       (λ (there : rows-up-to b i x y ≡ true). rows-marked i (λ j low. rows j (omega arith)) x y there)
       (or-cases (is-pair (first-in b i) (second-in b i) x y) (rows-up-to b i x y) e)
 
@@ -70,15 +72,15 @@ module _ (setting : Setting) (b : List ℕ) where
     pub load-accepted : RowsAllowed setting b (count-in b) → load-answer setting b ≡ success (count-in b) 0
     load-accepted rows =
         let none : lowest (λ i. isSome (row-refused setting b i)) (count-in b) ≡ None =
-            lowest-none (λ i. isSome (row-refused setting b i)) (count-in b) (λ i low. ap isSome (rows i low)) in
+        lowest-none (λ i. isSome (row-refused setting b i)) (count-in b) (λ i low. ap isSome (rows i low)) in
         asked-on b (header .frame) (header .in-order) _ ∙ ap (rows-asked setting b) none
 
     -- the lowest row that is refused
     pub load-refused : (found : ℕ × PairRefusal) → LowestRefusedRow setting b found → load-answer setting b ≡ pair-numbers (found .0) (found .1)
     load-refused found low =
         let at : lowest (λ i. isSome (row-refused setting b i)) (count-in b) ≡ Some (found .0) =
-            lowest-is (λ i. isSome (row-refused setting b i)) (count-in b) (found .0)
-            (record { below = low .is-row; passes = ap isSome (low .is-refused); none-lower = λ k h′. ap isSome (low .earlier-allowed k h′) }) in
+        lowest-is (λ i. isSome (row-refused setting b i)) (count-in b) (found .0)
+        (record { below = low .is-row; passes = ap isSome (low .is-refused); none-lower = λ k h′. ap isSome (low .earlier-allowed k h′) }) in
         asked-on b (header .frame) (header .in-order) _
         ∙ ap (rows-asked setting b) at
         ∙ ap (λ o. row-numbers o (found .0) (success (count-in b) 0)) (low .is-refused)

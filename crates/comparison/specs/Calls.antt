@@ -29,10 +29,10 @@ abbrev pub pair-refused : Setting → ℕ → ℕ → Option PairRefusal
 pair-refused setting s t =
     cond (ltb s (setting .first .states))
     (cond (ltb t (setting .second .states))
-     (cond (setting .first .mark s)
-      (cond (setting .second .mark t) None (Some (Unmarked Second)))
-      (Some (Unmarked First)))
-     (Some (NoState Second)))
+    (cond (setting .first .mark s)
+    (cond (setting .second .mark t) None (Some (Unmarked Second)))
+    (Some (Unmarked First)))
+    (Some (NoState Second)))
     (Some (NoState First))
 
 -- 1 or 2

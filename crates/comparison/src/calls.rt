@@ -32,13 +32,7 @@ impl TooShort {
     pub fn answer(self) -> Answer
         ensures { λ r. ⌜ r ≡ numbers 22 0 (self .needed) 0 0 ⌝ }
     {
-        Answer {
-            number: 22,
-            side: 0,
-            p: self.needed,
-            q: 0,
-            r: 0,
-        }
+        Answer::refusal(22, 0, self.needed, 0)
     }
 }
 
@@ -47,13 +41,7 @@ fn change_answer(result: Result<bool, PairRefusal>) -> Answer
     ensures { λ r. ⌜ r ≡ change-numbers result ⌝ }
 {
     match result {
-        Ok(stood) => Answer {
-            number: 0,
-            side: 0,
-            p: if stood { 1 } else { 0 },
-            q: 0,
-            r: 0,
-        },
+        Ok(stood) => Answer::success(if stood { 1 } else { 0 }, 0),
         Err(refusal) => refusal.answer(0),
     }
 }
@@ -63,13 +51,7 @@ fn load_answer(result: Result<usize, LoadRefusal>) -> Answer
     ensures { λ r. ⌜ r ≡ load-numbers result ⌝ }
 {
     match result {
-        Ok(count) => Answer {
-            number: 0,
-            side: 0,
-            p: count,
-            q: 0,
-            r: 0,
-        },
+        Ok(count) => Answer::success(count, 0),
         Err(refusal) => refusal.answer(),
     }
 }

@@ -1,7 +1,8 @@
 // Opening a comparison, and changing one pair.
 ghost use mathlib.Core.Path.{_≡_};
+ghost use mathlib.Core.Bool.{cond};
 ghost use Rattle.vet.specs.Findings.{Finds};
-ghost use Rattle.pairs.specs.Pairs.{no-pairs};
+ghost use Rattle.pairs.specs.Pairs.{no-pairs, kept-pairs, fits-table, with-pair, without-pair};
 ghost use Rattle.comparison.specs.Settings.{setting-of, standing, Consistent, SameSetting};
 ghost use Rattle.comparison.specs.Calls.{pair-refused, change-result, after-add, after-strike};
 use crate::Comparison;
@@ -11,6 +12,13 @@ use pairs::PairTable;
 use plan::Plan;
 use rules::Rule;
 use vet::Vetted;
+
+// The table of a new comparison.
+fn nothing_stands() -> PairTable
+    ensures { λ r. ⌜ kept-pairs r ≡ no-pairs ⌝ }
+{
+    PairTable::empty()
+}
 
 impl<A: Plan, B: Plan, R: Rule> Comparison<A, B, R> {
     // Opens a comparison of two vetted plans, sound or not, under a rule. No pair stands.
@@ -24,7 +32,7 @@ impl<A: Plan, B: Plan, R: Rule> Comparison<A, B, R> {
             first,
             second,
             rule,
-            pairs: PairTable::empty(),
+            pairs: nothing_stands(),
         }
     }
 
@@ -46,6 +54,28 @@ impl<A: Plan, B: Plan, R: Rule> Comparison<A, B, R> {
         }
     }
 
+    // Puts a pair into the table, if it fits. Says whether it stood before.
+    fn put_in(&mut self, s: usize, t: usize) -> bool
+        ensures stood { λ r. ⌜ r ≡ standing (now (self .entry)) s t ⌝ }
+        ensures pairs { λ _. ⌜ standing (now (self .exit)) ≡ cond (fits-table s t) (with-pair (standing (now (self .entry))) s t) (standing (now (self .entry))) ⌝ }
+        ensures same { λ _. ⌜ SameSetting (now (self .entry)) (now (self .exit)) ⌝ }
+    {
+        let stood = self.pairs.stands(s, t);
+        self.pairs.put(s, t);
+        stood
+    }
+
+    // Takes a pair out of the table. Says whether it stood before.
+    fn take_out(&mut self, s: usize, t: usize) -> bool
+        ensures stood { λ r. ⌜ r ≡ standing (now (self .entry)) s t ⌝ }
+        ensures pairs { λ _. ⌜ standing (now (self .exit)) ≡ without-pair (standing (now (self .entry))) s t ⌝ }
+        ensures same { λ _. ⌜ SameSetting (now (self .entry)) (now (self .exit)) ⌝ }
+    {
+        let stood = self.pairs.stands(s, t);
+        self.pairs.strike(s, t);
+        stood
+    }
+
     // Puts a pair in. Says whether it stood before.
     pub fn add(&mut self, s: usize, t: usize) -> Result<bool, PairRefusal>
         requires { ⌜ Consistent (setting-of (A·Plan .meaning) (B·Plan .meaning) (R·Rule .says) (now self)) (standing (now self)) ⌝ }
@@ -57,9 +87,7 @@ impl<A: Plan, B: Plan, R: Rule> Comparison<A, B, R> {
         if let Some(refusal) = self.pair_refusal(s, t) {
             return Err(refusal);
         }
-        let stood = self.pairs.stands(s, t);
-        self.pairs.put(s, t);
-        Ok(stood)
+        Ok(self.put_in(s, t))
     }
 
     // Takes a pair out. Says whether it stood before.
@@ -73,8 +101,6 @@ impl<A: Plan, B: Plan, R: Rule> Comparison<A, B, R> {
         if let Some(refusal) = self.pair_refusal(s, t) {
             return Err(refusal);
         }
-        let stood = self.pairs.stands(s, t);
-        self.pairs.strike(s, t);
-        Ok(stood)
+        Ok(self.take_out(s, t))
     }
 }

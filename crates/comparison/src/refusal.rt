@@ -52,13 +52,7 @@ impl PairRefusal {
             PairRefusal::NoState(side) => (13, side),
             PairRefusal::Unmarked(side) => (14, side),
         };
-        Answer {
-            number,
-            side: side.number(),
-            p,
-            q: 0,
-            r: 0,
-        }
+        Answer::refusal(number, side.number(), p, 0)
     }
 }
 

@@ -1,3 +1,4 @@
 pub mod Answers
 pub mod Joining
 pub mod Parts
+pub mod Meaning

@@ -1,7 +1,8 @@
 // Two plans side by side answer the seven questions of a plan.
 ghost use mathlib.Core.Path.{_≡_};
 ghost use lib.ListN.{length, getD};
-ghost use Rattle.join.specs.Joining.{joined, step-pairs};
+ghost use Rattle.join.specs.Joining.{step-pairs};
+ghost use Rattle.join.specs.Meaning.{joined-meaning};
 ghost use Rattle.join.specs.Parts.{pair-of};
 use crate::Joined;
 use plan::Plan;
@@ -42,7 +43,7 @@ impl<A: Plan, B: Plan> Joined<A, B> {
 
 // Past the limits the answers are those of one marked state without steps or channels.
 pub impl<A: Plan, B: Plan> Plan for Joined<A, B> as JoinedPlan {
-    ghost meaning = { λ j. joined (A·Plan .meaning (j .first)) (B·Plan .meaning (j .second)) };
+    ghost meaning = { joined-meaning (A·Plan .meaning) (B·Plan .meaning) };
 
     fn states(&self) -> usize {
         if self.fits() {

@@ -1,7 +1,8 @@
 // Two plans side by side, again a plan.
 ghost use mathlib.Core.Path.{_≡_};
 ghost use Rattle.std.specs.Results.{Cases};
-ghost use Rattle.join.specs.Joining.{joined, fits-join, SideBySide};
+ghost use Rattle.join.specs.Joining.{fits-join, SideBySide};
+ghost use Rattle.join.specs.Meaning.{joined-meaning};
 ghost use Rattle.join.specs.Answers.{join-answer, joining-numbers, refusal-numbers};
 use plan::Answer;
 use plan::Plan;
@@ -41,20 +42,8 @@ impl JoinRefusal {
         ensures { λ r. ⌜ r ≡ refusal-numbers self ⌝ }
     {
         match self {
-            JoinRefusal::States(p, q) => Answer {
-                number: 8,
-                side: 0,
-                p,
-                q,
-                r: 0,
-            },
-            JoinRefusal::Channels(p, q) => Answer {
-                number: 9,
-                side: 0,
-                p,
-                q,
-                r: 0,
-            },
+            JoinRefusal::States(p, q) => Answer::refusal(8, 0, p, q),
+            JoinRefusal::Channels(p, q) => Answer::refusal(9, 0, p, q),
         }
     }
 }
@@ -62,9 +51,9 @@ impl JoinRefusal {
 impl<A: Plan, B: Plan> Joined<A, B> {
     // Sets two plans side by side, or hands both back as they were.
     pub fn join(first: A, second: B) -> Result<Joined<A, B>, NotJoined<A, B>>
-        ensures numbers { λ r. ⌜ joining-numbers (λ j. joined (A·Plan .meaning (j .first)) (B·Plan .meaning (j .second))) r ≡ join-answer (A·Plan .meaning first) (B·Plan .meaning second) ⌝ }
+        ensures numbers { λ r. ⌜ joining-numbers (joined-meaning (A·Plan .meaning) (B·Plan .meaning)) r ≡ join-answer (A·Plan .meaning first) (B·Plan .meaning second) ⌝ }
         ensures plans { λ r. ⌜ Cases r (λ j. (j .first ≡ first) × (j .second ≡ second)) (λ e. (e .first ≡ first) × (e .second ≡ second)) ⌝ }
-        ensures meets { λ r. ⌜ Cases r (λ j. SideBySide (A·Plan .meaning first) (B·Plan .meaning second) (joined (A·Plan .meaning (j .first)) (B·Plan .meaning (j .second)))) (λ _. Unit {0}) ⌝ }
+        ensures meets { λ r. ⌜ Cases r (λ j. SideBySide (A·Plan .meaning first) (B·Plan .meaning second) (joined-meaning (A·Plan .meaning) (B·Plan .meaning) j)) (λ _. Unit {0}) ⌝ }
     {
         let states = first.states() * second.states();
         if states > 128 {
@@ -105,16 +94,10 @@ impl<A: Plan, B: Plan> Joined<A, B> {
 
 // The five numbers of joining: the joined plan's states and channels in p and q, or the refusal's.
 pub fn joining_answer<A: Plan, B: Plan>(joining: &Result<Joined<A, B>, NotJoined<A, B>>) -> Answer
-    ensures { λ r. ⌜ r ≡ joining-numbers (λ j. joined (A·Plan .meaning (j .first)) (B·Plan .meaning (j .second))) (now (joining .entry)) ⌝ }
+    ensures { λ r. ⌜ r ≡ joining-numbers (joined-meaning (A·Plan .meaning) (B·Plan .meaning)) (now (joining .entry)) ⌝ }
 {
     match joining {
-        Ok(both) => Answer {
-            number: 0,
-            side: 0,
-            p: both.states(),
-            q: both.channels(),
-            r: 0,
-        },
+        Ok(both) => Answer::success(both.states(), both.channels()),
         Err(back) => back.refusal.answer(),
     }
 }

@@ -1,29 +1,13 @@
--- The answer to a file, from which question is the first to be answered no.
+-- The answer to a file whose header passes: the lowest row at fault, or success.
 use mathlib.Core.Path.{_≡_, refl}
-use mathlib.Core.Bool.{true, false}
 use Prim.Native.Nat.{ℕ}
-use Rattle.plan.specs.Answers.{success, refusal, refusal-at}
+use Rattle.plan.specs.Answers.{success, refusal-at}
 use Rattle.layout.specs.Lowest.{Lowest, lowest}
 use Rattle.layout.specs.Questions.{Questions, HeaderPasses, RowsPass, Passes, answer-to}
 use Rattle.layout.proofs.LowestOf.{lowest-none, lowest-is}
 use Rattle.std.specs.declared.option.Option.the-variants.{Some, None}
 
 module _ (q : Questions) where
-  pub refused-length : q .length-fits ≡ false → answer-to q ≡ refusal 1
-  refused-length no-length = rw no-length refl
-
-  pub refused-sign : q .length-fits ≡ true → q .has-sign ≡ false → answer-to q ≡ refusal 2
-  refused-sign a no-sign = rw (a, no-sign) refl
-
-  pub refused-counts : q .length-fits ≡ true → q .has-sign ≡ true → q .counts-fit ≡ false → answer-to q ≡ refusal 3
-  refused-counts a b no-counts = rw (a, b, no-counts) refl
-
-  pub refused-start : q .length-fits ≡ true → q .has-sign ≡ true → q .counts-fit ≡ true → q .start-exists ≡ false → answer-to q ≡ refusal 4
-  refused-start a b d no-start = rw (a, b, d, no-start) refl
-
-  pub refused-parts : q .length-fits ≡ true → q .has-sign ≡ true → q .counts-fit ≡ true → q .start-exists ≡ true → q .parts-fit ≡ false → answer-to q ≡ refusal 5
-  refused-parts a b d e no-parts = rw (a, b, d, e, no-parts) refl
-
   module _ (passes : HeaderPasses q) where
     pub refused-row : (i : ℕ) → Lowest (q .improper) (q .rows) i → answer-to q ≡ refusal-at 6 i
     refused-row i low =

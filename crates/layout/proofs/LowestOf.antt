@@ -6,8 +6,8 @@ use Prim.Native.Nat.{ℕ, zero, suc, _<_, _≤_}
 use native.Mathlib.Omega.{arith}
 use Rattle.std.specs.declared.option.Option.{Option}
 use Rattle.std.specs.declared.option.Option.the-variants.{Some, None}
-use Rattle.std.proofs.shelf.Tests.{cases-order}
-use Rattle.layout.specs.Lowest.{lowest, or-else, Lowest}
+use Rattle.std.proofs.shelf.Tests.{cases-order, cases-bool}
+use Rattle.layout.specs.Lowest.{lowest, or-else, Lowest, LowestMeans}
 
 -- where nothing below n passes, there is no lowest
 pub lowest-none : (test : ℕ → Bool) (n : ℕ) → ((k : ℕ) → k < n → test k ≡ false) → lowest test n ≡ None
@@ -32,3 +32,40 @@ lowest-is test (suc n) i low =
     rw before refl)
     (λ (above : n < i). absurd (omega (arith, low .below))))
     (cases-order i n)
+
+-- either none passes, or there is a lowest that does
+decided : (test : ℕ → Bool) (n : ℕ) → ((k : ℕ) → k < n → test k ≡ false) ⊎ ((i : ℕ) × Lowest test n i)
+decided test zero = inl (λ k low. absurd (omega (arith, low)))
+decided test (suc n) =
+    ⊎-elim
+    (λ none.
+    ⊎-elim
+    (λ (passes : test n ≡ true). inr (n, record { below = omega arith; passes = passes; none-lower = none }))
+    (λ (fails : test n ≡ false).
+    inl (λ k low.
+    ⊎-elim
+    (λ (last : k ≡ n). subst (λ (m : ℕ). test m ≡ false) (sym last) fails)
+    (⊎-elim (λ (lower : k < n). none k lower) (λ (above : n < k). absurd (omega (arith, low))))
+    (cases-order k n)))
+    (cases-bool (test n)))
+    (λ there. inr (there .0, record { below = omega (arith, there .1 .below); passes = there .1 .passes; none-lower = there .1 .none-lower }))
+    (decided test n)
+
+pub lowest-means : LowestMeans
+lowest-means test n = (
+  λ i is.
+      ⊎-elim
+      (λ none. let e : Some i ≡ None = sym is ∙ lowest-none test n none in let z : _≡_ {A = ℕ} 0 1 = cc in absurd (omega arith))
+      (λ there.
+      let e : Some i ≡ Some (there .0) = sym is ∙ lowest-is test n (there .0) (there .1) in
+      let same : there .0 ≡ i = cc in
+      subst (Lowest test n) same (there .1))
+      (decided test n),
+  λ is.
+      ⊎-elim
+      (λ none. none)
+      (λ there.
+      let e : None ≡ Some (there .0) = sym is ∙ lowest-is test n (there .0) (there .1) in
+      let z : _≡_ {A = ℕ} 0 1 = cc in absurd (omega arith))
+      (decided test n),
+)

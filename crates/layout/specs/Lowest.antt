@@ -20,3 +20,10 @@ pub record Lowest (test : ℕ → Bool) (n i : ℕ) : Type 0 where
   pub below : i < n
   pub passes : test i ≡ true
   pub none-lower : (k : ℕ) → k < i → test k ≡ false
+
+-- what `lowest` gives is the lowest number that passes, and where it gives none, none passes
+abbrev pub LowestMeans : Type 0
+LowestMeans =
+    (test : ℕ → Bool) (n : ℕ)
+    → ((i : ℕ) → lowest test n ≡ Some i → Lowest test n i)
+    × (lowest test n ≡ None → (k : ℕ) → k < n → test k ≡ false)

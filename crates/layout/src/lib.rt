@@ -2,6 +2,7 @@
 ghost use Prim.Native.Nat.{ℕ, _+_};
 ghost use mathlib.Core.Path.{_≡_};
 ghost use Rattle.layout.specs.Bytes.{byte-at, word-at, long-at};
+ghost use Rattle.layout.specs.Lowest.{LowestMeans};
 ghost use Rattle.layout.specs.Questions.{fits-length, begins-with};
 
 pub mod refusal;
@@ -58,3 +59,8 @@ pub fn has_sign(bytes: &[u8], first: u8, second: u8) -> bool
 {
     byte(bytes, 0) == first && byte(bytes, 1) == second
 }
+
+// A theorem, with nothing to compute: what the questions call the lowest row at fault is at fault, and no lower row is.
+pub fn lowest_is_lowest()
+    ensures { λ _. ⌜ LowestMeans ⌝ }
+{}

@@ -29,26 +29,14 @@ impl FileRefusal {
         ensures { λ r. ⌜ r ≡ refusal-numbers self ⌝ }
     {
         match self {
-            FileRefusal::Length => refused(1, 0),
-            FileRefusal::Sign => refused(2, 0),
-            FileRefusal::Counts => refused(3, 0),
-            FileRefusal::Start => refused(4, 0),
-            FileRefusal::Parts => refused(5, 0),
-            FileRefusal::Row(row) => refused(6, row),
-            FileRefusal::Step(row) => refused(7, row),
+            FileRefusal::Length => Answer::refusal(1, 0, 0, 0),
+            FileRefusal::Sign => Answer::refusal(2, 0, 0, 0),
+            FileRefusal::Counts => Answer::refusal(3, 0, 0, 0),
+            FileRefusal::Start => Answer::refusal(4, 0, 0, 0),
+            FileRefusal::Parts => Answer::refusal(5, 0, 0, 0),
+            FileRefusal::Row(row) => Answer::refusal(6, 0, row, 0),
+            FileRefusal::Step(row) => Answer::refusal(7, 0, row, 0),
         }
-    }
-}
-
-fn refused(number: usize, p: usize) -> Answer
-    ensures { λ r. ⌜ r ≡ record { number = number; side = 0; p = p; q = 0; r = 0 } ⌝ }
-{
-    Answer {
-        number,
-        side: 0,
-        p,
-        q: 0,
-        r: 0,
     }
 }
 
@@ -57,13 +45,7 @@ pub fn opening_answer<P: Plan>(opening: &Result<P, FileRefusal>) -> Answer
     ensures { λ r. ⌜ r ≡ opening-numbers meaning (now (opening .entry)) ⌝ }
 {
     match opening {
-        Ok(plan) => Answer {
-            number: 0,
-            side: 0,
-            p: plan.states(),
-            q: plan.channels(),
-            r: 0,
-        },
+        Ok(plan) => Answer::success(plan.states(), plan.channels()),
         Err(refused) => refused.answer(),
     }
 }

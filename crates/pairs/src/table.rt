@@ -17,9 +17,7 @@ impl PairTable {
     pub fn empty() -> PairTable
         ensures { λ r. ⌜ kept-pairs r ≡ no-pairs ⌝ }
     {
-        PairTable {
-            bytes: [0; 16384],
-        }
+        PairTable { bytes: [0; 16384] }
     }
 
     // Does this pair stand?

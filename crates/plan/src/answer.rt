@@ -1,4 +1,6 @@
 // The five numbers of an answer, in the order in which they are printed.
+ghost use mathlib.Core.Path.{_≡_};
+ghost use Rattle.plan.specs.Answers.{numbers, success};
 ghost use Rattle.plan.specs.Shown.{shown-answer};
 ghost use Rattle.std.specs.declared.option.Option.the-variants.{Some};
 use std::fmt;
@@ -12,6 +14,28 @@ pub struct Answer {
     pub p: usize,
     pub q: usize,
     pub r: usize,
+}
+
+impl Answer {
+    // Success, with what it tells in p and q.
+    pub fn success(p: usize, q: usize) -> Answer
+        ensures { λ r. ⌜ r ≡ success p q ⌝ }
+    {
+        Answer::refusal(0, 0, p, q)
+    }
+
+    // The refusal of this number, with its side, p and q.
+    pub fn refusal(number: usize, side: usize, p: usize, q: usize) -> Answer
+        ensures { λ r. ⌜ r ≡ numbers number side p q 0 ⌝ }
+    {
+        Answer {
+            number,
+            side,
+            p,
+            q,
+            r: 0,
+        }
+    }
 }
 
 // The five numbers in decimal, single spaces between.

@@ -29,13 +29,7 @@ fn check_gauge(table: Table, gauge: &[u8]) -> Answer
     ensures { λ r. ⌜ r ≡ gauge-answer (table-meaning table) (now (gauge .entry)) ⌝ }
 {
     if gauge.is_empty() {
-        return Answer {
-            number: 0,
-            side: 0,
-            p: 0,
-            q: 0,
-            r: 0,
-        };
+        return Answer::success(0, 0);
     }
     match Table::open(gauge) {
         Ok(gauge) => joining_answer(&Joined::join(table, gauge)),

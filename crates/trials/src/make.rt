@@ -28,7 +28,7 @@ fn push_state_rows(bytes: &mut Vec<u8>, states: usize, channels: usize) -> Resul
 
 // A drawing of so many states, all marked with code 0, and so many steps: eight from each state, to states 0 to 7.
 // The parts touch, and the file ends with them.
-pub fn drawing(
+pub(crate) fn drawing(
     heap: Global,
     states: u16,
     steps: u16,
@@ -53,7 +53,7 @@ pub fn drawing(
 }
 
 // A table of so many states, all marked with code 0 and with steps to states 0 and 1.
-pub fn table(heap: Global, states: u16) -> Result<Vec<u8>, AllocError> {
+pub(crate) fn table(heap: Global, states: u16) -> Result<Vec<u8>, AllocError> {
     let mut bytes = Vec::new(heap);
     bytes.push(0x50)?;
     bytes.push(0x4B)?;
@@ -70,7 +70,7 @@ pub fn table(heap: Global, states: u16) -> Result<Vec<u8>, AllocError> {
 }
 
 // The file cut off at this length, or filled up to it with zeros.
-pub fn resize(bytes: &mut Vec<u8>, length: usize) -> Result<(), AllocError> {
+pub(crate) fn resize(bytes: &mut Vec<u8>, length: usize) -> Result<(), AllocError> {
     bytes.truncate(length);
     let missing = length - bytes.len();
     push_zeros(bytes, missing)
@@ -81,7 +81,7 @@ pub fn resize(bytes: &mut Vec<u8>, length: usize) -> Result<(), AllocError> {
 pub struct TableRow(pub u8, pub u8, pub u8);
 
 // A table of these rows.
-pub fn table_of(heap: Global, rows: &[TableRow]) -> Result<Vec<u8>, AllocError> {
+pub(crate) fn table_of(heap: Global, rows: &[TableRow]) -> Result<Vec<u8>, AllocError> {
     let mut bytes = Vec::new(heap);
     bytes.push(0x50)?;
     bytes.push(0x4B)?;
@@ -100,7 +100,7 @@ pub fn table_of(heap: Global, rows: &[TableRow]) -> Result<Vec<u8>, AllocError> 
 }
 
 // A table of 128 states: marked 0 to 1, unmarked 1 to 2, and so on, and 127 back to 0.
-pub fn chain(heap: Global) -> Result<Vec<u8>, AllocError> {
+pub(crate) fn chain(heap: Global) -> Result<Vec<u8>, AllocError> {
     let mut rows = Vec::new(heap);
     rows.push(TableRow(3, 1, 0))?;
     for i in 1..128u8 {

@@ -60,7 +60,7 @@ fn file(heap: Global, case: &Case) -> Result<Vec<u8>, AllocError> {
 }
 
 // Opens the file of each case, and prints what was expected and what came.
-pub fn run(rt: &LibcRuntime, cases: &[Case]) -> io::Result<()> {
+pub(crate) fn run(rt: &LibcRuntime, cases: &[Case]) -> io::Result<()> {
     for case in cases {
         let bytes = file(rt.alloc(), case)?;
         let (kind, came) = match case.made {
@@ -68,13 +68,7 @@ pub fn run(rt: &LibcRuntime, cases: &[Case]) -> io::Result<()> {
             Made::Table(_) => ("table", opening_answer(&Table::open(&bytes))),
         };
         let (number, p, q) = case.expected;
-        let expected = Answer {
-            number,
-            side: 0,
-            p,
-            q,
-            r: 0,
-        };
+        let expected = Answer::refusal(number, 0, p, q);
         let name = case.name;
         println!(rt, "{kind}, {name}: expected {expected}, came {came}")?;
     }

@@ -55,12 +55,12 @@ const CASES: [Case; 9] = [
         expected: (11, 2),
     },
     Case {
-        name: "two stuck states, the higher one nearer",
+        name: "two stuck states, the higher one reached first",
         rows: &[
             TableRow(3, 3, 0),
             TableRow(0, 0, 0),
             TableRow(0, 0, 0),
-            TableRow(6, 1, 2),
+            TableRow(6, 2, 1),
         ],
         expected: (11, 1),
     },
@@ -92,13 +92,7 @@ fn print(
 }
 
 fn answer(number: usize, p: usize, q: usize) -> Answer {
-    Answer {
-        number,
-        side: 0,
-        p,
-        q,
-        r: 0,
-    }
+    Answer::refusal(number, 0, p, q)
 }
 
 // Vets the plan of a table file, which every file here has.
@@ -205,7 +199,7 @@ fn show_joined(rt: &LibcRuntime) -> io::Result<()> {
     }
 }
 
-pub fn run(rt: &LibcRuntime) -> io::Result<()> {
+pub(crate) fn run(rt: &LibcRuntime) -> io::Result<()> {
     vet_cases(rt)?;
     join_cases(rt)?;
     show_joined(rt)

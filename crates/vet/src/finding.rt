@@ -26,12 +26,6 @@ impl Finding {
             Finding::StuckAt(state) => (11, state),
             Finding::CirclingAt(state) => (12, state),
         };
-        Answer {
-            number,
-            side: 0,
-            p,
-            q: 0,
-            r: 0,
-        }
+        Answer::refusal(number, 0, p, 0)
     }
 }

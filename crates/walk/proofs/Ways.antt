@@ -16,10 +16,6 @@ use Rattle.walk.proofs.Absent.{absent-less, absent-most}
 use Rattle.walk.proofs.Sets.{in-within, in-new, in-old, in-cases}
 use Rattle.walk.proofs.Reaching.{room-after, at-stays, expanding-more}
 
--- before the first step of a state
-pub spread-none : (m : Model) (state : ℕ) (w : Work) → Room (m .states) w → Spread m state 0 w w
-spread-none m state w room = record { room-stays = room; spreads = λ first at is expanding. (expanding, is) }
-
 -- one step more
 pub spread-more : (m : Model) (state i t : ℕ) (w v : Work) → Lawful m → i < length (m .steps state) → t ≡ getD (m .steps state) i 0
     → Spread m state i w v → Spread m state (i + 1) w (after-reaching m v t)

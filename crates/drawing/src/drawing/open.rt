@@ -7,7 +7,7 @@ ghost use Rattle.std.specs.Vec.{made};
 ghost use Rattle.layout.specs.Bytes.{word-at};
 ghost use Rattle.layout.specs.Refusals.{opening-numbers};
 ghost use Rattle.drawing.specs.Layout.{states-in, steps-in, astray-in, before, drawing-plan, drawing-answer};
-ghost use Rattle.drawing.specs.Meaning.{drawing-meaning};
+ghost use Rattle.drawing.specs.contracts.drawing.ask.DrawingPlan.the-impl.{ghosts};
 ghost use Rattle.drawing.specs.Opening.{HeaderRead, StatesRead, StepRowRead, StepsRead, Refused, LowestAstray};
 use super::Drawing;
 use crate::state::State;
@@ -140,10 +140,10 @@ fn read_steps(bytes: &[u8], header: &Header) -> Result<StepTable, FileRefusal>
 
 impl Drawing {
     // Opens a drawing file: exactly the plan that the file's layout says, or the refusal of the first question
-    // that is answered no.
+    // that is answered no. The plan's meaning here is the one by which it answers as a plan.
     pub fn open(bytes: &[u8]) -> Result<Drawing, FileRefusal>
-        ensures numbers { λ r. ⌜ opening-numbers drawing-meaning r ≡ drawing-answer (now (bytes .entry)) ⌝ }
-        ensures plan { λ r. ⌜ made r (λ d. drawing-meaning d ≡ drawing-plan (now (bytes .entry))) ⌝ }
+        ensures numbers { λ r. ⌜ opening-numbers (ghosts .meaning) r ≡ drawing-answer (now (bytes .entry)) ⌝ }
+        ensures plan { λ r. ⌜ made r (λ d. ghosts .meaning d ≡ drawing-plan (now (bytes .entry))) ⌝ }
     {
         let header = read_header(bytes)?;
         let rows = read_states(bytes, &header)?;

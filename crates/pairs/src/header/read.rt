@@ -16,6 +16,7 @@ use layout::length_fits;
 use layout::word;
 
 const HEADER: usize = 6;
+
 const ROW: usize = 2;
 
 impl PairHeader {

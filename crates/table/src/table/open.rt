@@ -5,7 +5,7 @@ ghost use Rattle.std.specs.Results.{Cases};
 ghost use Rattle.std.specs.Vec.{made};
 ghost use Rattle.layout.specs.Refusals.{opening-numbers};
 ghost use Rattle.table.specs.Layout.{table-plan, table-answer, states-in};
-ghost use Rattle.table.specs.Meaning.{table-meaning};
+ghost use Rattle.table.specs.contracts.table.ask.TablePlan.the-impl.{ghosts};
 ghost use Rattle.table.specs.Opening.{HeaderRead, RowsRead, Refused, LowestAstray, LeadWithin};
 use super::Table;
 use crate::row::Row;
@@ -84,10 +84,10 @@ fn check_targets(rows: &[Row; 128], states: usize) -> Result<(), FileRefusal>
 
 impl Table {
     // Opens a table file: exactly the plan that the file's layout says, or the refusal of the first question
-    // that is answered no.
+    // that is answered no. The plan's meaning here is the one by which it answers as a plan.
     pub fn open(bytes: &[u8]) -> Result<Table, FileRefusal>
-        ensures numbers { λ r. ⌜ opening-numbers table-meaning r ≡ table-answer (now (bytes .entry)) ⌝ }
-        ensures plan { λ r. ⌜ made r (λ t. table-meaning t ≡ table-plan (now (bytes .entry))) ⌝ }
+        ensures numbers { λ r. ⌜ opening-numbers (ghosts .meaning) r ≡ table-answer (now (bytes .entry)) ⌝ }
+        ensures plan { λ r. ⌜ made r (λ t. ghosts .meaning t ≡ table-plan (now (bytes .entry))) ⌝ }
     {
         let header = read_header(bytes)?;
         let rows = read_rows(bytes, &header)?;

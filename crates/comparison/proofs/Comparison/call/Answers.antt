@@ -9,8 +9,8 @@ returns-in-Load g c =
     let setting : Setting = setting-of (g .A·Plan .meaning) (g .B·Plan .meaning) (g .R·Rule .says) here in
     record {
       does =
-        subst (λ call. Does setting (standing here) call (c .load-answer .result) (standing (c .load .last .self))) (sym (c .in-Load .is))
-        (c .load-answer .ensures ∙ c .load .ensures .answer, c .load .ensures .pairs);
+          subst (λ call. Does setting (standing here) call (c .load-answer .result) (standing (c .load .last .self))) (sym (c .in-Load .is))
+          (c .load-answer .ensures ∙ c .load .ensures .answer, c .load .ensures .pairs);
       same = c .load .ensures .same;
       consistent = c .load .ensures .consistent;
     }

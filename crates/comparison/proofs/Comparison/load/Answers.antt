@@ -23,9 +23,10 @@ returns-in-Some g c =
 pub fill-self-requires : need.fill-self-requires
 fill-self-requires g c κs =
     let here = c .args .self .now in
-    let setting : Setting = setting-of (g .A·Plan .meaning) (g .B·Plan .meaning) (g .R·Rule .says) here in
-    (c .in-Continue-header .ensures tt,
-     rows-fit-table setting (c .args .file .now) (g .A·Plan·met .lawful (here .first .plan) .few) (g .B·Plan·met .lawful (here .second .plan) .few) _ (c .in-rest .ensures tt))
+    let setting : Setting = setting-of (g .A·Plan .meaning) (g .B·Plan .meaning) (g .R·Rule .says) here in (
+      c .in-Continue-header .ensures tt,
+      rows-fit-table setting (c .args .file .now) (g .A·Plan·met .lawful (here .first .plan) .few) (g .B·Plan·met .lawful (here .second .plan) .few) _ (c .in-rest .ensures tt),
+    )
 
 pub returns : need.returns
 returns g c =

@@ -16,8 +16,8 @@ loop-i-again g c =
     let low : c .loop-i .i < c .args .header .now .count = omega (arith, c .count-i-end .ensures, c .loop-i-test .taken) in
     let row = row-is b (c .args .header .now) (c .loop-i .i) (c .row-s .result) (c .pre) low (c .row-s .ensures) in
     let here : row-refused setting b (c .loop-i .i) ≡ None =
-        sym
-        (c .in-rest .ensures tt
-         ∙ ap (λ s. pair-refused setting s (c .row-s .result .1)) (row .0)
-         ∙ ap (pair-refused setting (first-in b (c .loop-i .i))) (row .1)) in
+    sym
+    (c .in-rest .ensures tt
+    ∙ ap (λ s. pair-refused setting s (c .row-s .result .1)) (row .0)
+    ∙ ap (pair-refused setting (first-in b (c .loop-i .i))) (row .1)) in
     below-more (λ i. row-refused setting b i ≡ None) (c .loop-i .i) (c .loop-i .inv) here

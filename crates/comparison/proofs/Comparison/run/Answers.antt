@@ -22,12 +22,13 @@ pub loop-i-again : need.loop-i-again
 loop-i-again g c =
     let start = c .args .self .now in
     let setting : Setting = setting-of (g .A·Plan .meaning) (g .B·Plan .meaning) (g .R·Rule .says) start in
-    let stays = setting-stays (g .A·Plan .meaning) (g .B·Plan .meaning) (g .R·Rule .says) start (c .loop-i .self) (c .loop-i .inv .1) in
-    (running-more setting (standing start) (c .args .calls .now) (c .args .answers .now) (c .loop-i .answers) (standing (c .loop-i .self)) (standing (c .call .last .self)) (c .loop-i .i) (c .call .result)
-     (omega arith) (c .loop-i .inv .0)
-     (subst (λ (x : Setting). Does x (standing (c .loop-i .self)) (getD (c .args .calls .now) (c .loop-i .i) no-call) (c .call .result) (standing (c .call .last .self))) stays (c .call .ensures .does)),
-     same-again start (c .loop-i .self) (c .call .last .self) (c .loop-i .inv .1) (c .call .ensures .same),
-     c .call .ensures .consistent)
+    let stays = setting-stays (g .A·Plan .meaning) (g .B·Plan .meaning) (g .R·Rule .says) start (c .loop-i .self) (c .loop-i .inv .1) in (
+      running-more setting (standing start) (c .args .calls .now) (c .args .answers .now) (c .loop-i .answers) (standing (c .loop-i .self)) (standing (c .call .last .self)) (c .loop-i .i) (c .call .result)
+          (omega arith) (c .loop-i .inv .0)
+          (subst (λ (x : Setting). Does x (standing (c .loop-i .self)) (getD (c .args .calls .now) (c .loop-i .i) no-call) (c .call .result) (standing (c .call .last .self))) stays (c .call .ensures .does)),
+      same-again start (c .loop-i .self) (c .call .last .self) (c .loop-i .inv .1) (c .call .ensures .same),
+      c .call .ensures .consistent,
+    )
 
 pub returns : need.returns
 returns g c =
