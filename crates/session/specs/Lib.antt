@@ -1,1 +1,3 @@
-pub mod Folder
+pub mod Opening
+pub mod Running
+pub mod Session

@@ -1,0 +1,4 @@
+pub mod Commanded
+pub mod Numbered
+pub mod Progress
+pub mod Splits

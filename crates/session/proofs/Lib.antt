@@ -1,0 +1,4 @@
+pub mod Answering
+pub mod Making
+pub mod Rest
+pub mod Whole

@@ -1,0 +1,22 @@
+// A printed line: a letter and the five numbers of an answer.
+ghost use mathlib.Core.List.{_++_};
+ghost use lib.Chars.{codes};
+ghost use Rattle.std.specs.declared.option.Option.the-variants.{Some};
+ghost use Rattle.plan.specs.Shown.{shown-answer};
+use plan::Answer;
+use plan::AnswerDisplay;
+use std::fmt;
+
+#[derive(Clone, Copy)]
+pub struct Line {
+    pub letter: char,
+    pub answer: Answer,
+}
+
+pub impl fmt::Display for Line as LineDisplay {
+    fn fmt<W: fmt::Write>(&self, f: &mut fmt::Formatter<W>) -> fmt::Result {
+        let letter = self.letter;
+        let answer = self.answer;
+        write!(f, "{letter} {answer}")
+    }
+}
