@@ -57,7 +57,17 @@ fn run(rt: &LibcRuntime) -> Result<(), AnyError> {
         answer: Answer::success(0, 0),
     };
     let mut lines = vec![in heap; blank; most.saturating_add(3)]?;
-    let printed = session(&drawing, &table, &gauge, &pairs, &input, &mut commands, &mut calls, &mut answers, &mut lines);
+    let printed = session(
+        &drawing,
+        &table,
+        &gauge,
+        &pairs,
+        &input,
+        &mut commands,
+        &mut calls,
+        &mut answers,
+        &mut lines,
+    );
     for line in lines.iter().take(printed.unwrap_or(0)) {
         println!(rt, "{line}")?;
     }

@@ -53,7 +53,7 @@ module _ (file : List ℕ) where
   make-call-more commands calls i n call d low low′ made makes =
       subst (λ cs. MakeCalls file cs (take (n + 1) (set calls n call))) (sym (take-more commands i d low))
       (subst (MakeCalls file (take i commands ++ getD commands i d ∷ [])) (sym (take-more-set calls n call low′))
-       (make-call (take i commands) (take n calls) (getD commands i d) call made makes))
+      (make-call (take i commands) (take n calls) (getD commands i d) call made makes))
 
   pub make-none-more : (commands : List Command) (calls : List Call) (i n : ℕ) (d : Command) → i < length commands
       → MakeCalls file (take i commands) (take n calls) → getD commands i d ≡ Unknown
@@ -74,7 +74,7 @@ line-push [] command answers = refl
 line-push (d ∷ commands) command answers =
     ap (λ xs. line-of d (getD answers 0 no-answer) ∷ xs)
     (line-push commands command (cond (is-call d) (drop 1 answers) answers)
-     ∙ ap (λ x. command-lines commands (cond (is-call d) (drop 1 answers) answers) ++ line-of command x ∷ []) (next-answer (is-call d) answers (calls-in commands)))
+    ∙ ap (λ x. command-lines commands (cond (is-call d) (drop 1 answers) answers) ++ line-of command x ∷ []) (next-answer (is-call d) answers (calls-in commands)))
 
 calls-push : (commands : List Command) (command : Command) → calls-in (commands ++ command ∷ []) ≡ calls-in commands + cond (is-call command) 1 0
 calls-push [] command = omega arith

@@ -36,9 +36,9 @@ module _ (m : Model) (table gauge file : List ℕ) (commands : List Command) (li
       let no-table : succeeds (table-answer table) ≡ false = ap succeeds (sym is) ∙ refused in
       let shut : tables-open table gauge ≡ false = and-left (succeeds (table-answer table)) _ no-table in
       let written : take 2 (set lines 1 (line 76 answer)) ≡ take 1 lines ++ table-lines table gauge =
-          take-more-set lines 1 (line 76 answer) (omega arith)
-          ∙ ap (λ a. take 1 lines ++ line 76 a ∷ []) is
-          ∙ ap (λ v. take 1 lines ++ line 76 (table-answer table) ∷ cond v (line 71 (gauge-answer (table-plan table) gauge) ∷ []) []) (sym no-table) in
+      take-more-set lines 1 (line 76 answer) (omega arith)
+      ∙ ap (λ a. take 1 lines ++ line 76 a ∷ []) is
+      ∙ ap (λ v. take 1 lines ++ line 76 (table-answer table) ∷ cond v (line 71 (gauge-answer (table-plan table) gauge) ∷ []) []) (sym no-table) in
       shut-when (tables-open table gauge) (AllPrinted m table gauge file commands (take 1 lines) (take 2 (set lines 1 (line 76 answer)))) _ shut written
 
   -- both lines are written
@@ -68,11 +68,11 @@ module _ (m : Model) (table gauge file : List ℕ) (commands : List Command) (li
       → RestPrinted m table gauge file commands (take 1 lines) (take (3 + length commands) after)
   rest-open answer last second answers after is passed last-is last-passed second-is answered written =
       let open-tables : tables-open table gauge ≡ true =
-          and-from _ _ (ap succeeds (sym is) ∙ passed) (ap succeeds (sym last-is) ∙ last-passed) in
+      and-from _ _ (ap succeeds (sym is) ∙ passed) (ap succeeds (sym last-is) ∙ last-passed) in
       let all : take (3 + length commands) after ≡ take 1 lines ++ (table-lines table gauge ++ command-lines commands answers) =
-          written
-          ∙ ap (λ xs. xs ++ command-lines commands answers) (both-written answer last is passed last-is)
-          ∙ append-assoc (take 1 lines) (table-lines table gauge) (command-lines commands answers) in
+      written
+      ∙ ap (λ xs. xs ++ command-lines commands answers) (both-written answer last is passed last-is)
+      ∙ append-assoc (take 1 lines) (table-lines table gauge) (command-lines commands answers) in
       open-when (tables-open table gauge) (AllPrinted m table gauge file commands (take 1 lines) (take (3 + length commands) after)) (take (3 + length commands) after ≡ take 1 lines ++ table-lines table gauge) open-tables
       (answers, subst (λ x. Answered m x file commands answers) second-is answered, all)
 

@@ -71,10 +71,10 @@ module _ (drawing table gauge file input : List ℕ) (lines : List Line) (room :
   print-refused refused =
       let fails : succeeds (drawing-answer drawing) ≡ false = ap succeeds (sym is) ∙ refused in
       let all : take 1 (set lines 0 (line 68 answer)) ≡ opening-lines drawing table gauge =
-          one-line ∙ ap (λ v. line 68 (drawing-answer drawing) ∷ cond v (table-lines table gauge) []) (sym fails) in
+      one-line ∙ ap (λ v. line 68 (drawing-answer drawing) ∷ cond v (table-lines table gauge) []) (sym fails) in
       shut-when (opens drawing table gauge)
       ((answers : List Answer) × Answered (drawing-plan drawing) (second-plan table gauge) file (commands-of input) answers
-       × (take 1 (set lines 0 (line 68 answer)) ≡ opening-lines drawing table gauge ++ command-lines (commands-of input) answers))
+      × (take 1 (set lines 0 (line 68 answer)) ≡ opening-lines drawing table gauge ++ command-lines (commands-of input) answers))
       (take 1 (set lines 0 (line 68 answer)) ≡ opening-lines drawing table gauge)
       (first-fails (succeeds (drawing-answer drawing)) _ _ fails) all
 
@@ -84,22 +84,23 @@ module _ (drawing table gauge file input : List ℕ) (lines : List Line) (room :
   print-rest m commands after opened meaning-is commands-is rest =
       let passes : succeeds (drawing-answer drawing) ≡ true = ap succeeds (sym is) ∙ opened in
       let opening : line 68 (drawing-answer drawing) ∷ table-lines table gauge ≡ opening-lines drawing table gauge =
-          ap (λ v. line 68 (drawing-answer drawing) ∷ cond v (table-lines table gauge) []) (sym passes) in
+      ap (λ v. line 68 (drawing-answer drawing) ∷ cond v (table-lines table gauge) []) (sym passes) in
       when-like (tables-open table gauge) (opens drawing table gauge)
       (AllPrinted m table gauge file commands (take 1 (set lines 0 (line 68 answer))) after)
       (after ≡ take 1 (set lines 0 (line 68 answer)) ++ table-lines table gauge)
       ((answers : List Answer) × Answered (drawing-plan drawing) (second-plan table gauge) file (commands-of input) answers
-       × (after ≡ opening-lines drawing table gauge ++ command-lines (commands-of input) answers))
+      × (after ≡ opening-lines drawing table gauge ++ command-lines (commands-of input) answers))
       (after ≡ opening-lines drawing table gauge)
       (first-passes (succeeds (drawing-answer drawing)) _ _ passes)
-      (λ h.
-        (h .0,
-         subst (λ x. Answered x (second-plan table gauge) file (commands-of input) (h .0)) meaning-is
-         (subst (λ cs. Answered m (second-plan table gauge) file cs (h .0)) commands-is (h .1)),
-         h .2
-         ∙ ap (λ xs. xs ++ (table-lines table gauge ++ command-lines commands (h .0))) one-line
-         ∙ ap (λ xs. xs ++ command-lines commands (h .0)) opening
-         ∙ ap (λ cs. opening-lines drawing table gauge ++ command-lines cs (h .0)) commands-is))
+      (λ h. (
+        h .0,
+        subst (λ x. Answered x (second-plan table gauge) file (commands-of input) (h .0)) meaning-is
+            (subst (λ cs. Answered m (second-plan table gauge) file cs (h .0)) commands-is (h .1)),
+        h .2
+            ∙ ap (λ xs. xs ++ (table-lines table gauge ++ command-lines commands (h .0))) one-line
+            ∙ ap (λ xs. xs ++ command-lines commands (h .0)) opening
+            ∙ ap (λ cs. opening-lines drawing table gauge ++ command-lines cs (h .0)) commands-is,
+      ))
       (λ h. h ∙ ap (λ xs. xs ++ table-lines table gauge) one-line ∙ opening)
       rest
 

@@ -44,9 +44,9 @@ abbrev pub opening-lines : List ℕ → List ℕ → List ℕ → List Line
 opening-lines drawing table gauge =
     line 68 (drawing-answer drawing)
     ∷ cond (succeeds (drawing-answer drawing))
-      (line 76 (table-answer table)
-       ∷ cond (succeeds (table-answer table)) (line 71 (gauge-answer (table-plan table) gauge) ∷ []) [])
-      []
+    (line 76 (table-answer table)
+    ∷ cond (succeeds (table-answer table)) (line 71 (gauge-answer (table-plan table) gauge) ∷ []) [])
+    []
 
 -- nothing was refused
 abbrev pub opens : List ℕ → List ℕ → List ℕ → Bool
@@ -126,5 +126,5 @@ abbrev pub Prints : List ℕ → List ℕ → List ℕ → List ℕ → List ℕ
 Prints drawing table gauge file input lines =
     When (opens drawing table gauge)
     ((answers : List Answer) × Answered (drawing-plan drawing) (second-plan table gauge) file (commands-of input) answers
-     × (lines ≡ opening-lines drawing table gauge ++ command-lines (commands-of input) answers))
+    × (lines ≡ opening-lines drawing table gauge ++ command-lines (commands-of input) answers))
     (lines ≡ opening-lines drawing table gauge)

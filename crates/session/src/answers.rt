@@ -87,9 +87,18 @@ fn command_line(command: Command, answer: Answer) -> Line
     ensures { λ r. ⌜ r ≡ line-of command answer ⌝ }
 {
     match command {
-        Command::Add(_, _) => Line { letter: 'a', answer },
-        Command::Strike(_, _) => Line { letter: 's', answer },
-        Command::Load => Line { letter: 'p', answer },
+        Command::Add(_, _) => Line {
+            letter: 'a',
+            answer,
+        },
+        Command::Strike(_, _) => Line {
+            letter: 's',
+            answer,
+        },
+        Command::Load => Line {
+            letter: 'p',
+            answer,
+        },
         Command::Unknown => Line {
             letter: '?',
             answer: Answer::refusal(23, 0, 0, 0),

@@ -37,11 +37,17 @@ fn finish<'a>(
 {
     match open_second(table, gauge) {
         Second::NoTable(answer) => {
-            lines[1] = Line { letter: 'L', answer };
+            lines[1] = Line {
+                letter: 'L',
+                answer,
+            };
             2
         }
         Second::NoGauge(answer, last) => {
-            lines[1] = Line { letter: 'L', answer };
+            lines[1] = Line {
+                letter: 'L',
+                answer,
+            };
             lines[2] = Line {
                 letter: 'G',
                 answer: last,
@@ -49,7 +55,10 @@ fn finish<'a>(
             3
         }
         Second::Alone(plan, answer) => {
-            lines[1] = Line { letter: 'L', answer };
+            lines[1] = Line {
+                letter: 'L',
+                answer,
+            };
             lines[2] = Line {
                 letter: 'G',
                 answer: Answer::success(0, 0),
@@ -59,7 +68,10 @@ fn finish<'a>(
             3 + commands.len()
         }
         Second::Both(plan, answer, last) => {
-            lines[1] = Line { letter: 'L', answer };
+            lines[1] = Line {
+                letter: 'L',
+                answer,
+            };
             lines[2] = Line {
                 letter: 'G',
                 answer: last,
@@ -99,7 +111,12 @@ pub fn session<'a>(
     ensures { λ r. ⌜ BySome r (NoRoom (has-room (length (now (input .entry))) (length (now (commands .entry))) (length (now (calls .entry))) (length (now (answers .entry))) (length (now (lines .entry)))) (now (lines .entry)) (now (lines .exit))) (Printed (now (drawing .entry)) (now (table .entry)) (now (gauge .entry)) (now (pairs .entry)) (now (input .entry)) (has-room (length (now (input .entry))) (length (now (commands .entry))) (length (now (calls .entry))) (length (now (answers .entry))) (length (now (lines .entry)))) (now (lines .exit))) ⌝ }
 {
     let most = input.len();
-    if commands.len() < most || calls.len() < most || answers.len() < most || lines.len() < 3 || lines.len() - 3 < most {
+    if commands.len() < most
+        || calls.len() < most
+        || answers.len() < most
+        || lines.len() < 3
+        || lines.len() - 3 < most
+    {
         return None;
     }
     let count = read_commands(input, commands)?;
@@ -109,7 +126,16 @@ pub fn session<'a>(
         answer: opening_answer(&opening),
     };
     match opening {
-        Ok(drawing) => Some(finish(drawing, table, gauge, pairs, first_commands(commands, count), calls, answers, lines)),
+        Ok(drawing) => Some(finish(
+            drawing,
+            table,
+            gauge,
+            pairs,
+            first_commands(commands, count),
+            calls,
+            answers,
+            lines,
+        )),
         Err(_) => Some(1),
     }
 }

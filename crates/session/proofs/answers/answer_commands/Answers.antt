@@ -17,14 +17,14 @@ returns g c =
     let calls = take (n - 0) (c .make-calls-n .last .calls) in
     let whole : n ≡ n - 0 = omega arith in
     let compares : Compares (g .A·Plan .meaning (c .args .first)) (g .B·Plan .meaning (c .args .second)) setting = record {
-          first-is = ap (λ v. g .A·Plan .meaning (v .plan)) (c .open-comparison .ensures .parts .0) ∙ ap (g .A·Plan .meaning) (c .vet .ensures .same-plan);
-          second-is = ap (λ v. g .B·Plan .meaning (v .plan)) (c .open-comparison .ensures .parts .1) ∙ ap (g .B·Plan .meaning) (c .vet-2 .ensures .same-plan);
-          rule-is = refl;
-          first-found = c .open-comparison .ensures .consistent .first-found;
-          second-found = c .open-comparison .ensures .consistent .second-found;
-        } in
+      first-is = ap (λ v. g .A·Plan .meaning (v .plan)) (c .open-comparison .ensures .parts .0) ∙ ap (g .A·Plan .meaning) (c .vet .ensures .same-plan);
+      second-is = ap (λ v. g .B·Plan .meaning (v .plan)) (c .open-comparison .ensures .parts .1) ∙ ap (g .B·Plan .meaning) (c .vet-2 .ensures .same-plan);
+      rule-is = refl;
+      first-found = c .open-comparison .ensures .consistent .first-found;
+      second-found = c .open-comparison .ensures .consistent .second-found;
+    } in
     let places : length calls ≤ length (c .args .answers .now) =
-        simp length-take (omega (arith, c .make-calls-n .ensures .count, c .pre .1)) in
+    simp length-take (omega (arith, c .make-calls-n .ensures .count, c .pre .1)) in
     let made = subst (λ k. MakeCalls (c .args .file .now) (c .args .commands .now) (take k (c .make-calls-n .last .calls))) whole (c .make-calls-n .ensures .made) in
     answered-from _ _ (c .args .file .now) (c .args .commands .now) setting (standing comparison) (standing (c .run .last .self)) calls (c .args .answers .now) (c .run .last .answers) (c .run .result)
     compares (c .open-comparison .ensures .none) made places (c .run .ensures .ran)

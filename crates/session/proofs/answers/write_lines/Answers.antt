@@ -17,16 +17,18 @@ loop-i-again c =
     let low : i < length commands = c .loop-i-test .taken in
     let place : c .args .at + i < length (c .loop-i .lines) = omega (arith, low, c .pre, c .loop-i .kept .lines) in
     let written = lines-more commands (c .args .answers .now) (c .args .lines .now) (c .loop-i .lines) (c .args .at) i k _ (c .command-line .result) low place
-        (c .loop-i .inv .0) (c .command-line .ensures ∙ ap (line-of _) (c .answer-at .ensures)) (c .loop-i .inv .2) in
-    elim (c .if-makes-call .came)
-    [ then-makes-call w ↦
-      (w .k-is ∙ calls-counted commands i k _ low (c .loop-i .inv .0) (w .if-makes-call .ensures tt),
-       omega (arith, w .k-is, c .loop-i .inv .1),
-       written)
-    | else-makes-call w ↦
-      (w .k-is ∙ calls-kept commands i k _ low (c .loop-i .inv .0) (w .if-makes-call .ensures tt),
-       omega (arith, w .k-is, c .loop-i .inv .1),
-       written)
+    (c .loop-i .inv .0) (c .command-line .ensures ∙ ap (line-of _) (c .answer-at .ensures)) (c .loop-i .inv .2) in
+    elim (c .if-makes-call .came) [
+      | then-makes-call w ↦ (
+        w .k-is ∙ calls-counted commands i k _ low (c .loop-i .inv .0) (w .if-makes-call .ensures tt),
+        omega (arith, w .k-is, c .loop-i .inv .1),
+        written,
+      )
+      | else-makes-call w ↦ (
+        w .k-is ∙ calls-kept commands i k _ low (c .loop-i .inv .0) (w .if-makes-call .ensures tt),
+        omega (arith, w .k-is, c .loop-i .inv .1),
+        written,
+      )
     ]
 
 pub returns : need.returns

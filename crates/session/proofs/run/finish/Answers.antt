@@ -12,8 +12,8 @@ returns-in-NoTable c =
     record {
       within = omega arith;
       rest =
-        rest-no-table (ghosts .meaning (c .args .drawing)) (c .args .table .now) (c .args .gauge .now) (c .args .pairs .now) (c .args .commands .now) (c .args .lines .now) (omega arith)
-        (c .in-NoTable .answer) (o .0) (o .1);
+          rest-no-table (ghosts .meaning (c .args .drawing)) (c .args .table .now) (c .args .gauge .now) (c .args .pairs .now) (c .args .commands .now) (c .args .lines .now) (omega arith)
+          (c .in-NoTable .answer) (o .0) (o .1);
     }
 
 pub returns-in-NoGauge : need.returns-in-NoGauge
@@ -22,8 +22,8 @@ returns-in-NoGauge c =
     record {
       within = omega arith;
       rest =
-        rest-no-gauge (ghosts .meaning (c .args .drawing)) (c .args .table .now) (c .args .gauge .now) (c .args .pairs .now) (c .args .commands .now) (c .args .lines .now) (omega arith)
-        (c .in-NoGauge .answer) (c .in-NoGauge .last) (o .0) (o .1) (o .2) (o .3);
+          rest-no-gauge (ghosts .meaning (c .args .drawing)) (c .args .table .now) (c .args .gauge .now) (c .args .pairs .now) (c .args .commands .now) (c .args .lines .now) (omega arith)
+          (c .in-NoGauge .answer) (c .in-NoGauge .last) (o .0) (o .1) (o .2) (o .3);
     }
 
 pub returns-in-Alone : need.returns-in-Alone
@@ -33,9 +33,9 @@ returns-in-Alone c =
     record {
       within = omega arith;
       rest =
-        rest-open (ghosts .meaning (c .args .drawing)) (c .args .table .now) (c .args .gauge .now) (c .args .pairs .now) (c .args .commands .now) (c .args .lines .now) (omega arith)
-        (c .in-Alone .answer) (c .success .result) _ (c .answer-commands .last .answers) (c .write-lines .last .lines) (o .0) (o .1) last-is (ap succeeds (c .success .ensures))
-        (o .3 ∙ alone-plan (c .args .table .now) (c .args .gauge .now) (o .2)) (c .answer-commands .ensures) (c .write-lines .ensures);
+          rest-open (ghosts .meaning (c .args .drawing)) (c .args .table .now) (c .args .gauge .now) (c .args .pairs .now) (c .args .commands .now) (c .args .lines .now) (omega arith)
+          (c .in-Alone .answer) (c .success .result) _ (c .answer-commands .last .answers) (c .write-lines .last .lines) (o .0) (o .1) last-is (ap succeeds (c .success .ensures))
+          (o .3 ∙ alone-plan (c .args .table .now) (c .args .gauge .now) (o .2)) (c .answer-commands .ensures) (c .write-lines .ensures);
     }
 
 pub returns-in-Both : need.returns-in-Both
@@ -44,7 +44,7 @@ returns-in-Both c =
     record {
       within = omega arith;
       rest =
-        rest-open (ghosts .meaning (c .args .drawing)) (c .args .table .now) (c .args .gauge .now) (c .args .pairs .now) (c .args .commands .now) (c .args .lines .now) (omega arith)
-        (c .in-Both .answer) (c .in-Both .last) _ (c .answer-commands-in-Both .last .answers) (c .write-lines-in-Both .last .lines) (o .0) (o .1) (o .2) (o .3)
-        (o .5 ∙ both-plan (c .args .table .now) (c .args .gauge .now) (o .4)) (c .answer-commands-in-Both .ensures) (c .write-lines-in-Both .ensures);
+          rest-open (ghosts .meaning (c .args .drawing)) (c .args .table .now) (c .args .gauge .now) (c .args .pairs .now) (c .args .commands .now) (c .args .lines .now) (omega arith)
+          (c .in-Both .answer) (c .in-Both .last) _ (c .answer-commands-in-Both .last .answers) (c .write-lines-in-Both .last .lines) (o .0) (o .1) (o .2) (o .3)
+          (o .5 ∙ both-plan (c .args .table .now) (c .args .gauge .now) (o .4)) (c .answer-commands-in-Both .ensures) (c .write-lines-in-Both .ensures);
     }
