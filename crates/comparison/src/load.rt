@@ -44,6 +44,14 @@ impl<A: Plan, B: Plan, R: Rule> Comparison<A, B, R> {
         None
     }
 
+    // Lets just these pairs stand.
+    fn replace(&mut self, pairs: PairTable)
+        ensures pairs { λ _. ⌜ standing (now (self .exit)) ≡ kept-pairs pairs ⌝ }
+        ensures same { λ _. ⌜ SameSetting (now (self .entry)) (now (self .exit)) ⌝ }
+    {
+        self.pairs = pairs;
+    }
+
     // Replaces the standing pairs by those of a pair file, all or none. Says how many there are.
     pub fn load(&mut self, file: &[u8]) -> Result<usize, LoadRefusal>
         requires { ⌜ Consistent (setting-of (A·Plan .meaning) (B·Plan .meaning) (R·Rule .says) (now self)) (standing (now self)) ⌝ }
@@ -56,7 +64,7 @@ impl<A: Plan, B: Plan, R: Rule> Comparison<A, B, R> {
         if let Some((row, refusal)) = self.row_refusal(&header, file) {
             return Err(LoadRefusal::BadRow(row, refusal));
         }
-        self.pairs = fill(&header, file);
+        self.replace(fill(&header, file));
         Ok(header.count())
     }
 }
