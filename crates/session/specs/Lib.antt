@@ -1,3 +1,4 @@
 pub mod Opening
 pub mod Running
 pub mod Session
+pub mod Shown

@@ -12,13 +12,13 @@ use Rattle.table.specs.contracts.table.ask.TablePlan.the-impl.{ghosts}
 use Rattle.join.specs.Joining.{joined}
 use Rattle.join.specs.Meaning.{joined-meaning}
 use Rattle.session.specs.declared.second.Second.{Second}
-use Rattle.session.specs.declared.second.Second.the-variants.{NoTable, NoGauge, Alone, Both}
+use Rattle.session.specs.declared.second.Second.the-variants.{TableRefused, GaugeRefused, Alone, Both}
 use Rattle.session.specs.Session.{succeeds, gauge-answer}
 
 -- the answers are those that are defined, the plan is the one that the files describe, and only the last can be a refusal
 abbrev pub Opened : List ℕ → List ℕ → Second → Type 0
-Opened table gauge (NoTable answer) = (answer ≡ table-answer table) × (succeeds answer ≡ false)
-Opened table gauge (NoGauge answer last) =
+Opened table gauge (TableRefused answer) = (answer ≡ table-answer table) × (succeeds answer ≡ false)
+Opened table gauge (GaugeRefused answer last) =
     (answer ≡ table-answer table) × (succeeds answer ≡ true)
     × (last ≡ gauge-answer (table-plan table) gauge) × (succeeds last ≡ false)
 Opened table gauge (Alone plan answer) =
@@ -32,9 +32,9 @@ Opened table gauge (Both plan answer last) =
 
 -- the same of the gauge alone, beside a table that was opened
 abbrev pub OpenedGauge : Model → Answer → List ℕ → Second → Type 0
-OpenedGauge m answer gauge (NoTable other) = ⊥
+OpenedGauge m answer gauge (TableRefused other) = ⊥
 OpenedGauge m answer gauge (Alone plan other) = ⊥
-OpenedGauge m answer gauge (NoGauge same last) = (same ≡ answer) × (last ≡ gauge-answer m gauge) × (succeeds last ≡ false)
+OpenedGauge m answer gauge (GaugeRefused same last) = (same ≡ answer) × (last ≡ gauge-answer m gauge) × (succeeds last ≡ false)
 OpenedGauge m answer gauge (Both plan same last) =
     (same ≡ answer) × (last ≡ gauge-answer m gauge) × (succeeds last ≡ true)
     × (joined-meaning (ghosts .meaning) (ghosts .meaning) plan ≡ joined m (table-plan gauge))

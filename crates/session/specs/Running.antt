@@ -42,7 +42,9 @@ pub record Printed (drawing table gauge file input : List ℕ) (room : Bool) (li
   pub within : n ≤ length lines
   pub prints : Prints drawing table gauge file input (take n lines)
 
--- there is no room, and no line was written
-pub record NoRoom (room : Bool) (before lines : List Line) : Type 0 where
+-- there is no room, and nothing was written into the slices of commands, answers and lines
+pub record NoRoom (room : Bool) (commands commands′ : List Command) (answers answers′ : List Answer) (lines lines′ : List Line) : Type 0 where
   pub too-short : room ≡ false
-  pub untouched : lines ≡ before
+  pub commands-kept : commands′ ≡ commands
+  pub answers-kept : answers′ ≡ answers
+  pub lines-kept : lines′ ≡ lines

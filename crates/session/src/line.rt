@@ -1,8 +1,6 @@
 // A printed line: a letter and the five numbers of an answer.
-ghost use mathlib.Core.List.{_++_};
-ghost use lib.Chars.{codes};
 ghost use Rattle.std.specs.declared.option.Option.the-variants.{Some};
-ghost use Rattle.plan.specs.Shown.{shown-answer};
+ghost use Rattle.session.specs.Shown.{shown-line};
 use plan::Answer;
 use plan::AnswerDisplay;
 use std::fmt;
@@ -14,6 +12,8 @@ pub struct Line {
 }
 
 pub impl fmt::Display for Line as LineDisplay {
+    ghost shown = { λ l. Some (shown-line (l .letter) (l .answer)) };
+
     fn fmt<W: fmt::Write>(&self, f: &mut fmt::Formatter<W>) -> fmt::Result {
         let letter = self.letter;
         let answer = self.answer;

@@ -36,14 +36,14 @@ fn finish<'a>(
     ensures rest { λ r. ⌜ RestPrinted (ghosts .meaning drawing) (now (table .entry)) (now (gauge .entry)) (now (pairs .entry)) (now (commands .entry)) (take 1 (now (lines .entry))) (take r (now (lines .exit))) ⌝ }
 {
     match open_second(table, gauge) {
-        Second::NoTable(answer) => {
+        Second::TableRefused(answer) => {
             lines[1] = Line {
                 letter: 'L',
                 answer,
             };
             2
         }
-        Second::NoGauge(answer, last) => {
+        Second::GaugeRefused(answer, last) => {
             lines[1] = Line {
                 letter: 'L',
                 answer,
@@ -95,7 +95,7 @@ fn first_commands(commands: &[Command], count: usize) -> &[Command]
 }
 
 // A session, from the bytes that are read to the lines that are printed: the answers to the folder's files, up to the first
-// refusal, and then a line for each line of the input. Gives how many lines there are. None, and no line written, where a slice is
+// refusal, and then a line for each line of the input. Gives how many lines there are. None, and nothing written, where a slice is
 // shorter than the input, or the lines are not three more.
 pub fn session<'a>(
     drawing: &[u8],
@@ -108,7 +108,7 @@ pub fn session<'a>(
     answers: &mut [Answer],
     lines: &mut [Line],
 ) -> Option<usize>
-    ensures { λ r. ⌜ BySome r (NoRoom (has-room (length (now (input .entry))) (length (now (commands .entry))) (length (now (calls .entry))) (length (now (answers .entry))) (length (now (lines .entry)))) (now (lines .entry)) (now (lines .exit))) (Printed (now (drawing .entry)) (now (table .entry)) (now (gauge .entry)) (now (pairs .entry)) (now (input .entry)) (has-room (length (now (input .entry))) (length (now (commands .entry))) (length (now (calls .entry))) (length (now (answers .entry))) (length (now (lines .entry)))) (now (lines .exit))) ⌝ }
+    ensures { λ r. ⌜ BySome r (NoRoom (has-room (length (now (input .entry))) (length (now (commands .entry))) (length (now (calls .entry))) (length (now (answers .entry))) (length (now (lines .entry)))) (now (commands .entry)) (now (commands .exit)) (now (answers .entry)) (now (answers .exit)) (now (lines .entry)) (now (lines .exit))) (Printed (now (drawing .entry)) (now (table .entry)) (now (gauge .entry)) (now (pairs .entry)) (now (input .entry)) (has-room (length (now (input .entry))) (length (now (commands .entry))) (length (now (calls .entry))) (length (now (answers .entry))) (length (now (lines .entry)))) (now (lines .exit))) ⌝ }
 {
     let most = input.len();
     if commands.len() < most

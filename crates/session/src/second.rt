@@ -15,16 +15,16 @@ use table::TablePlan;
 // What came of opening the two table files, with the answers that are printed.
 pub enum Second {
     // The logger's table was refused.
-    NoTable(Answer),
+    TableRefused(Answer),
     // The gauge's table was refused, or the two were not joined.
-    NoGauge(Answer, Answer),
+    GaugeRefused(Answer, Answer),
     // There is no gauge.
     Alone(Table, Answer),
     // The two tables side by side.
     Both(Joined<Table, Table>, Answer, Answer),
 }
 
-// Opens the gauge's table, which has this answer's table of the logger beside it.
+// Opens the gauge's table and joins the two. `answer` is the answer to the logger's table.
 fn open_gauge(table: Table, answer: Answer, gauge: &[u8]) -> Second
     requires { ⌜ eqb (length (now gauge)) 0 ≡ false ⌝ }
     ensures { λ r. ⌜ OpenedGauge (ghosts .meaning table) answer (now (gauge .entry)) r ⌝ }
@@ -35,9 +35,9 @@ fn open_gauge(table: Table, answer: Answer, gauge: &[u8]) -> Second
                 let joined = Answer::success(both.states(), both.channels());
                 Second::Both(both, answer, joined)
             }
-            Err(back) => Second::NoGauge(answer, back.refusal.answer()),
+            Err(back) => Second::GaugeRefused(answer, back.refusal.answer()),
         },
-        Err(refused) => Second::NoGauge(answer, refused.answer()),
+        Err(refused) => Second::GaugeRefused(answer, refused.answer()),
     }
 }
 
@@ -54,6 +54,6 @@ pub(crate) fn open_second(table: &[u8], gauge: &[u8]) -> Second
                 open_gauge(table, answer, gauge)
             }
         }
-        Err(refused) => Second::NoTable(refused.answer()),
+        Err(refused) => Second::TableRefused(refused.answer()),
     }
 }

@@ -6,24 +6,24 @@ use Rattle.session.specs.Session.{succeeds}
 use Rattle.session.proofs.Rest.{rest-no-table, rest-no-gauge, rest-open, alone-answer, alone-plan, both-plan}
 use Rattle.session.proofs.run.finish.Needs as need
 
-pub returns-in-NoTable : need.returns-in-NoTable
-returns-in-NoTable c =
-    let o = c .in-NoTable .ensures tt in
+pub returns-in-TableRefused : need.returns-in-TableRefused
+returns-in-TableRefused c =
+    let o = c .in-TableRefused .ensures tt in
     record {
       within = omega arith;
       rest =
           rest-no-table (ghosts .meaning (c .args .drawing)) (c .args .table .now) (c .args .gauge .now) (c .args .pairs .now) (c .args .commands .now) (c .args .lines .now) (omega arith)
-          (c .in-NoTable .answer) (o .0) (o .1);
+          (c .in-TableRefused .answer) (o .0) (o .1);
     }
 
-pub returns-in-NoGauge : need.returns-in-NoGauge
-returns-in-NoGauge c =
-    let o = c .in-NoGauge .ensures tt in
+pub returns-in-GaugeRefused : need.returns-in-GaugeRefused
+returns-in-GaugeRefused c =
+    let o = c .in-GaugeRefused .ensures tt in
     record {
       within = omega arith;
       rest =
           rest-no-gauge (ghosts .meaning (c .args .drawing)) (c .args .table .now) (c .args .gauge .now) (c .args .pairs .now) (c .args .commands .now) (c .args .lines .now) (omega arith)
-          (c .in-NoGauge .answer) (c .in-NoGauge .last) (o .0) (o .1) (o .2) (o .3);
+          (c .in-GaugeRefused .answer) (c .in-GaugeRefused .last) (o .0) (o .1) (o .2) (o .3);
     }
 
 pub returns-in-Alone : need.returns-in-Alone
