@@ -1,4 +1,6 @@
 // Next closings as a table of pairs, and which closings they cover.
+#![tactic(auto)]
+
 mod coverage;
 mod next;
 

@@ -1,4 +1,6 @@
 // The commands of standard input: how it splits into lines, and how a line is read.
+#![tactic(auto)]
+
 mod command;
 mod fields;
 mod read;

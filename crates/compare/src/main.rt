@@ -1,5 +1,7 @@
 // Opens the plan files of the working folder, runs the commands of standard input, and prints a line for each: a letter and the
 // five numbers of the answer.
+#![tactic(auto)]
+
 use commands::Command;
 use comparison::Call;
 use layout::LONGEST;

@@ -1,4 +1,6 @@
 // A comparison of two vetted plans.
+#![tactic(auto)]
+
 use pairs::PairTable;
 use vet::Vetted;
 

@@ -1,4 +1,6 @@
 // When a set of pairs of states fits two plans.
+#![tactic(auto)]
+
 mod covering;
 mod judging;
 pub mod misfit;

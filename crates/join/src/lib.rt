@@ -1,4 +1,6 @@
 // Two plans side by side, again a plan.
+#![tactic(auto)]
+
 ghost use Rattle.std.specs.Prelude.{◌≡◌, IfOk, MatchResult};
 ghost use Rattle.join.specs.Joining.{fits_join, SideBySide};
 ghost use Rattle.join.specs.Meaning.{joined_meaning};

@@ -1,4 +1,6 @@
 // The largest set of pairs that fits two plans, found in rounds.
+#![tactic(auto)]
+
 mod finding;
 mod first;
 mod nofit;

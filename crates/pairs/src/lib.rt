@@ -1,4 +1,6 @@
 // Pairs of states: the table of those that stand, and the pair file.
+#![tactic(auto)]
+
 mod header;
 mod table;
 mod write;

@@ -1,4 +1,6 @@
 // Acceptance rules: which codes of the two plans go together.
+#![tactic(auto)]
+
 ghost use Rattle.std.specs.Prelude.{◌≡◌, ℕ, Bool};
 
 mod accept;

@@ -1,4 +1,6 @@
 // What the program prints, from the bytes that it reads.
+#![tactic(auto)]
+
 mod answers;
 mod line;
 mod run;

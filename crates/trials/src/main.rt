@@ -1,4 +1,6 @@
 // Tries the file kinds at their edges, vetting and joining, rules and lists of calls. Each line has what was tried, the answer that is expected and the one that came.
+#![tactic(auto)]
+
 mod calls;
 mod cases;
 mod make;

@@ -1,4 +1,6 @@
 // A plan is vetted: found sound, or the first fault is named.
+#![tactic(auto)]
+
 ghost use Rattle.std.specs.Prelude.{◌≡◌};
 ghost use Rattle.plan.specs.Runs.{KeepsClosing};
 ghost use Rattle.vet.specs.Findings.{Finds, OneFinding};

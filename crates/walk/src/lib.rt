@@ -1,5 +1,7 @@
 // The walk over a plan of any kind: which states are reached from given first states by one or more steps with only
 // unmarked states between. Each state is expanded once, so a walk is linear in the plan's steps.
+#![tactic(auto)]
+
 ghost use Rattle.std.specs.Prelude.{◌≡◌, ℕ, ◌+◌, ◌<◌, ◌≤◌, Bool, true, false, cond, List, length, slice_index_or};
 ghost use Rattle.walk.specs.Walking.{Work, Room, Reached, Spread, Loaded, Walked, enough};
 
