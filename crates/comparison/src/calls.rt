@@ -57,10 +57,10 @@ fn load_answer(res: Result<usize, LoadRefusal>) -> Answer
 impl<A: Plan, B: Plan, R: Rule> Comparison<A, B, R> {
     // Makes one call. Gives its five numbers.
     pub fn call(&mut self, call: &Call<'_>) -> Answer
-        requires { Consistent (setting_of A.Plan.meaning B.Plan.meaning R.Rule.says self.old) (standing self.old) }
-        ensures does { Does (setting_of A.Plan.meaning B.Plan.meaning R.Rule.says self.old) (standing self.old) call.now result (standing self.new) }
+        requires { Consistent (setting_of A.meaning B.meaning R.says self.old) (standing self.old) }
+        ensures does { Does (setting_of A.meaning B.meaning R.says self.old) (standing self.old) call.now result (standing self.new) }
         ensures same { SameSetting self.old self.new }
-        ensures consistent { Consistent (setting_of A.Plan.meaning B.Plan.meaning R.Rule.says self.new) (standing self.new) }
+        ensures consistent { Consistent (setting_of A.meaning B.meaning R.says self.new) (standing self.new) }
     {
         match call {
             Call::Add(s, t) => change_answer(self.add(*s, *t)),
@@ -72,11 +72,11 @@ impl<A: Plan, B: Plan, R: Rule> Comparison<A, B, R> {
     // Makes the calls of a list one after the other, each on what the one before it left, and writes their answers into the
     // lent slice. Where that is shorter than the list nothing is run. Nothing is allocated, so nothing else can fail.
     pub fn run(&mut self, calls: &[Call<'_>], answers: &mut [Answer]) -> Result<(), TooShort>
-        requires { Consistent (setting_of A.Plan.meaning B.Plan.meaning R.Rule.says self.old) (standing self.old) }
-        ensures ran { MatchResult result (λ _. Ran (setting_of A.Plan.meaning B.Plan.meaning R.Rule.says self.old) (standing self.old) calls.now answers.old answers.new (standing self.new)) (λ e. NotRun (standing self.old) calls.now answers.old answers.new (standing self.new) e.needed) }
-        ensures only { OneHistory (setting_of A.Plan.meaning B.Plan.meaning R.Rule.says self.old) }
+        requires { Consistent (setting_of A.meaning B.meaning R.says self.old) (standing self.old) }
+        ensures ran { MatchResult result (λ _. Ran (setting_of A.meaning B.meaning R.says self.old) (standing self.old) calls.now answers.old answers.new (standing self.new)) (λ e. NotRun (standing self.old) calls.now answers.old answers.new (standing self.new) e.needed) }
+        ensures only { OneHistory (setting_of A.meaning B.meaning R.says self.old) }
         ensures same { SameSetting self.old self.new }
-        ensures consistent { Consistent (setting_of A.Plan.meaning B.Plan.meaning R.Rule.says self.new) (standing self.new) }
+        ensures consistent { Consistent (setting_of A.meaning B.meaning R.says self.new) (standing self.new) }
     {
         if answers.len() < calls.len() {
             return Err(TooShort {

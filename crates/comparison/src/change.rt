@@ -22,10 +22,10 @@ fn nothing_stands() -> PairTable
 impl<A: Plan, B: Plan, R: Rule> Comparison<A, B, R> {
     // Opens a comparison of two vetted plans, sound or not, under a rule. No pair stands.
     pub fn open(first: Vetted<A>, second: Vetted<B>, rule: R) -> Comparison<A, B, R>
-        requires { (Finds (A.Plan.meaning first.plan) first.finding) × (Finds (B.Plan.meaning second.plan) second.finding) }
+        requires { (Finds (A.meaning first.plan) first.finding) × (Finds (B.meaning second.plan) second.finding) }
         ensures parts { (result.first ≡ first) × (result.second ≡ second) × (result.rule ≡ rule) }
         ensures none { standing result ≡ no_pairs }
-        ensures consistent { Consistent (setting_of A.Plan.meaning B.Plan.meaning R.Rule.says result) (standing result) }
+        ensures consistent { Consistent (setting_of A.meaning B.meaning R.says result) (standing result) }
     {
         Comparison {
             first,
@@ -37,7 +37,7 @@ impl<A: Plan, B: Plan, R: Rule> Comparison<A, B, R> {
 
     // Why this pair is refused, if it is.
     pub(crate) fn pair_refusal(&self, s: usize, t: usize) -> Option<PairRefusal>
-        ensures { result ≡ pair_refused (setting_of A.Plan.meaning B.Plan.meaning R.Rule.says self.now) s t }
+        ensures { result ≡ pair_refused (setting_of A.meaning B.meaning R.says self.now) s t }
     {
         let (first, second) = (self.first.plan(), self.second.plan());
         if s >= first.states() {
@@ -77,11 +77,11 @@ impl<A: Plan, B: Plan, R: Rule> Comparison<A, B, R> {
 
     // Puts a pair in. Says whether it stood before.
     pub fn add(&mut self, s: usize, t: usize) -> Result<bool, PairRefusal>
-        requires { Consistent (setting_of A.Plan.meaning B.Plan.meaning R.Rule.says self.old) (standing self.old) }
-        ensures answer { result ≡ change_result (setting_of A.Plan.meaning B.Plan.meaning R.Rule.says self.old) (standing self.old) s t }
-        ensures pairs { standing self.new ≡ after_add (setting_of A.Plan.meaning B.Plan.meaning R.Rule.says self.old) (standing self.old) s t }
+        requires { Consistent (setting_of A.meaning B.meaning R.says self.old) (standing self.old) }
+        ensures answer { result ≡ change_result (setting_of A.meaning B.meaning R.says self.old) (standing self.old) s t }
+        ensures pairs { standing self.new ≡ after_add (setting_of A.meaning B.meaning R.says self.old) (standing self.old) s t }
         ensures same { SameSetting self.old self.new }
-        ensures consistent { Consistent (setting_of A.Plan.meaning B.Plan.meaning R.Rule.says self.new) (standing self.new) }
+        ensures consistent { Consistent (setting_of A.meaning B.meaning R.says self.new) (standing self.new) }
     {
         if let Some(refusal) = self.pair_refusal(s, t) {
             return Err(refusal);
@@ -91,11 +91,11 @@ impl<A: Plan, B: Plan, R: Rule> Comparison<A, B, R> {
 
     // Takes a pair out. Says whether it stood before.
     pub fn strike(&mut self, s: usize, t: usize) -> Result<bool, PairRefusal>
-        requires { Consistent (setting_of A.Plan.meaning B.Plan.meaning R.Rule.says self.old) (standing self.old) }
-        ensures answer { result ≡ change_result (setting_of A.Plan.meaning B.Plan.meaning R.Rule.says self.old) (standing self.old) s t }
-        ensures pairs { standing self.new ≡ after_strike (setting_of A.Plan.meaning B.Plan.meaning R.Rule.says self.old) (standing self.old) s t }
+        requires { Consistent (setting_of A.meaning B.meaning R.says self.old) (standing self.old) }
+        ensures answer { result ≡ change_result (setting_of A.meaning B.meaning R.says self.old) (standing self.old) s t }
+        ensures pairs { standing self.new ≡ after_strike (setting_of A.meaning B.meaning R.says self.old) (standing self.old) s t }
         ensures same { SameSetting self.old self.new }
-        ensures consistent { Consistent (setting_of A.Plan.meaning B.Plan.meaning R.Rule.says self.new) (standing self.new) }
+        ensures consistent { Consistent (setting_of A.meaning B.meaning R.says self.new) (standing self.new) }
     {
         if let Some(refusal) = self.pair_refusal(s, t) {
             return Err(refusal);

@@ -29,7 +29,7 @@ impl<A: Plan, B: Plan, R: Rule> Comparison<A, B, R> {
     // The lowest row of a file whose pair is refused.
     fn row_refusal(&self, header: &PairHeader, file: &[u8]) -> Option<(usize, PairRefusal)>
         requires { HeaderOf file.now header.now }
-        ensures { MatchOption result (RowsAllowed (setting_of A.Plan.meaning B.Plan.meaning R.Rule.says self.now) file.now (count_in file.now)) (LowestRefusedRow (setting_of A.Plan.meaning B.Plan.meaning R.Rule.says self.now) file.now) }
+        ensures { MatchOption result (RowsAllowed (setting_of A.meaning B.meaning R.says self.now) file.now (count_in file.now)) (LowestRefusedRow (setting_of A.meaning B.meaning R.says self.now) file.now) }
     {
         for i in 0..header.count() {
             let (s, t) = header.row(file, i);
@@ -50,11 +50,11 @@ impl<A: Plan, B: Plan, R: Rule> Comparison<A, B, R> {
 
     // Replaces the standing pairs by those of a pair file, all or none. Says how many there are.
     pub fn load(&mut self, file: &[u8]) -> Result<usize, LoadRefusal>
-        requires { Consistent (setting_of A.Plan.meaning B.Plan.meaning R.Rule.says self.old) (standing self.old) }
-        ensures answer { load_numbers result ≡ load_answer (setting_of A.Plan.meaning B.Plan.meaning R.Rule.says self.old) file.now }
-        ensures pairs { standing self.new ≡ after_load (setting_of A.Plan.meaning B.Plan.meaning R.Rule.says self.old) (standing self.old) file.now }
+        requires { Consistent (setting_of A.meaning B.meaning R.says self.old) (standing self.old) }
+        ensures answer { load_numbers result ≡ load_answer (setting_of A.meaning B.meaning R.says self.old) file.now }
+        ensures pairs { standing self.new ≡ after_load (setting_of A.meaning B.meaning R.says self.old) (standing self.old) file.now }
         ensures same { SameSetting self.old self.new }
-        ensures consistent { Consistent (setting_of A.Plan.meaning B.Plan.meaning R.Rule.says self.new) (standing self.new) }
+        ensures consistent { Consistent (setting_of A.meaning B.meaning R.says self.new) (standing self.new) }
     {
         let header = PairHeader::read(file)?;
         if let Some((row, refusal)) = self.row_refusal(&header, file) {

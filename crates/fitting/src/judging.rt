@@ -18,8 +18,8 @@ const STATES: usize = 128;
 
 // Is the plan of this side sound?
 fn require_sound<P: Plan>(side: Side, plan: &Vetted<P>) -> Result<(), Incomparable>
-    requires { Finds (meaning plan.now.plan) plan.now.finding }
-    ensures { MatchResult result (λ _. Sound (meaning plan.now.plan)) (SideUnsound (meaning plan.now.plan) side) }
+    requires { Finds (P.meaning plan.now.plan) plan.now.finding }
+    ensures { MatchResult result (λ _. Sound (P.meaning plan.now.plan)) (SideUnsound (P.meaning plan.now.plan) side) }
 {
     match plan.finding() {
         Finding::SoundPlan => Ok(()),
@@ -32,8 +32,8 @@ pub fn compare_plans<A: Plan, B: Plan>(
     first: &Vetted<A>,
     second: &Vetted<B>,
 ) -> Result<(), Incomparable>
-    requires { (Finds (A.Plan.meaning first.now.plan) first.now.finding) × (Finds (B.Plan.meaning second.now.plan) second.now.finding) }
-    ensures { MatchResult result (λ _. Comparable (A.Plan.meaning first.now.plan) (B.Plan.meaning second.now.plan)) (PlansRefused (A.Plan.meaning first.now.plan) (B.Plan.meaning second.now.plan)) }
+    requires { (Finds (A.meaning first.now.plan) first.now.finding) × (Finds (B.meaning second.now.plan) second.now.finding) }
+    ensures { MatchResult result (λ _. Comparable (A.meaning first.now.plan) (B.meaning second.now.plan)) (PlansRefused (A.meaning first.now.plan) (B.meaning second.now.plan)) }
 {
     require_sound(Side::First, first)?;
     require_sound(Side::Second, second)?;
@@ -51,8 +51,8 @@ fn first_unacceptable<A: Plan, B: Plan, R: Rule>(
     rule: &R,
     pairs: &PairTable,
 ) -> Option<Misfit>
-    requires { ((A.Plan.meaning first.now).channels ≡ (B.Plan.meaning second.now).channels) × (OnlyMarked (A.Plan.meaning first.now) (B.Plan.meaning second.now) (kept_pairs pairs.now)) }
-    ensures { MatchOption result (AllAcceptable (A.Plan.meaning first.now) (B.Plan.meaning second.now) (R.Rule.says rule.now) (kept_pairs pairs.now)) (λ m. NamesUnacceptable (A.Plan.meaning first.now) (B.Plan.meaning second.now) (R.Rule.says rule.now) (kept_pairs pairs.now) (Err m)) }
+    requires { ((A.meaning first.now).channels ≡ (B.meaning second.now).channels) × (OnlyMarked (A.meaning first.now) (B.meaning second.now) (kept_pairs pairs.now)) }
+    ensures { MatchOption result (AllAcceptable (A.meaning first.now) (B.meaning second.now) (R.says rule.now) (kept_pairs pairs.now)) (λ m. NamesUnacceptable (A.meaning first.now) (B.meaning second.now) (R.says rule.now) (kept_pairs pairs.now) (Err m)) }
 {
     for s in 0..first.states() {
         for t in 0..second.states() {
@@ -78,8 +78,8 @@ fn first_uncovered<A: Plan, B: Plan>(
     pairs: &PairTable,
     covering: &Covering,
 ) -> Option<Misfit>
-    requires { (Covers (A.Plan.meaning first.now) (B.Plan.meaning second.now) (kept_pairs pairs.now) covering.now) × (OnlyMarked (A.Plan.meaning first.now) (B.Plan.meaning second.now) (kept_pairs pairs.now)) }
-    ensures { MatchOption result (AllCovered (A.Plan.meaning first.now) (B.Plan.meaning second.now) (kept_pairs pairs.now)) (λ m. NamesUncovered (A.Plan.meaning first.now) (B.Plan.meaning second.now) (kept_pairs pairs.now) (Err m)) }
+    requires { (Covers (A.meaning first.now) (B.meaning second.now) (kept_pairs pairs.now) covering.now) × (OnlyMarked (A.meaning first.now) (B.meaning second.now) (kept_pairs pairs.now)) }
+    ensures { MatchOption result (AllCovered (A.meaning first.now) (B.meaning second.now) (kept_pairs pairs.now)) (λ m. NamesUncovered (A.meaning first.now) (B.meaning second.now) (kept_pairs pairs.now) (Err m)) }
 {
     'pairs: {
         for s in 0..first.states() {
@@ -111,9 +111,9 @@ fn judge_pairs<A: Plan, B: Plan, R: Rule>(
     rule: &R,
     pairs: &PairTable,
 ) -> Result<usize, Misfit>
-    requires as_many { (A.Plan.meaning first.now).channels ≡ (B.Plan.meaning second.now).channels }
-    requires only_marked { OnlyMarked (A.Plan.meaning first.now) (B.Plan.meaning second.now) (kept_pairs pairs.now) }
-    ensures { PairsAsked (A.Plan.meaning first.now) (B.Plan.meaning second.now) (R.Rule.says rule.now) (kept_pairs pairs.now) result }
+    requires as_many { (A.meaning first.now).channels ≡ (B.meaning second.now).channels }
+    requires only_marked { OnlyMarked (A.meaning first.now) (B.meaning second.now) (kept_pairs pairs.now) }
+    ensures { PairsAsked (A.meaning first.now) (B.meaning second.now) (R.says rule.now) (kept_pairs pairs.now) result }
 {
     if !pairs.stands(first.start(), second.start()) {
         return Err(Misfit::StartsApart);
@@ -136,13 +136,13 @@ pub fn judge<A: Plan, B: Plan, R: Rule>(
     rule: &R,
     pairs: &PairTable,
 ) -> Result<usize, Misfit>
-    requires first_found { Finds (A.Plan.meaning first.now.plan) first.now.finding }
-    requires second_found { Finds (B.Plan.meaning second.now.plan) second.now.finding }
-    requires only_marked { OnlyMarked (A.Plan.meaning first.now.plan) (B.Plan.meaning second.now.plan) (kept_pairs pairs.now) }
-    ensures judges { Judges (A.Plan.meaning first.now.plan) (B.Plan.meaning second.now.plan) (R.Rule.says rule.now) (kept_pairs pairs.now) result }
-    ensures only { OnlyOne (Judges (A.Plan.meaning first.now.plan) (B.Plan.meaning second.now.plan) (R.Rule.says rule.now) (kept_pairs pairs.now)) }
-    ensures accepts { Decides (is_ok result) (Accepted (A.Plan.meaning first.now.plan) (B.Plan.meaning second.now.plan) (R.Rule.says rule.now) (kept_pairs pairs.now)) }
-    ensures agrees { is_ok result ≡ true → Agree (A.Plan.meaning first.now.plan) (B.Plan.meaning second.now.plan) (R.Rule.says rule.now) }
+    requires first_found { Finds (A.meaning first.now.plan) first.now.finding }
+    requires second_found { Finds (B.meaning second.now.plan) second.now.finding }
+    requires only_marked { OnlyMarked (A.meaning first.now.plan) (B.meaning second.now.plan) (kept_pairs pairs.now) }
+    ensures judges { Judges (A.meaning first.now.plan) (B.meaning second.now.plan) (R.says rule.now) (kept_pairs pairs.now) result }
+    ensures only { OnlyOne (Judges (A.meaning first.now.plan) (B.meaning second.now.plan) (R.says rule.now) (kept_pairs pairs.now)) }
+    ensures accepts { Decides (is_ok result) (Accepted (A.meaning first.now.plan) (B.meaning second.now.plan) (R.says rule.now) (kept_pairs pairs.now)) }
+    ensures agrees { is_ok result ≡ true → Agree (A.meaning first.now.plan) (B.meaning second.now.plan) (R.says rule.now) }
 {
     compare_plans(first, second)?;
     judge_pairs(first.plan(), second.plan(), rule, pairs)

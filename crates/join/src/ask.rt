@@ -12,7 +12,7 @@ impl<A: Plan, B: Plan> Joined<A, B> {
     // The state of the first plan and the state of the second that this state stands for;
     // none where there is no such state, or where the plans are past the limits.
     fn pair(&self, state: usize) -> Option<(usize, usize)>
-        ensures { result ≡ pair_of (A.Plan.meaning self.now.first) (B.Plan.meaning self.now.second) state }
+        ensures { result ≡ pair_of (A.meaning self.now.first) (B.meaning self.now.second) state }
     {
         let inner = self.second.states();
         if self.fits() && state < self.first.states() * inner {
@@ -24,7 +24,7 @@ impl<A: Plan, B: Plan> Joined<A, B> {
 
     // How many steps lead out of state x of the first plan and y of the second, taken together.
     fn pair_step_count(&self, x: usize, y: usize) -> usize
-        ensures { result ≡ length (step_pairs (B.Plan.meaning self.now.second).states ((A.Plan.meaning self.now.first).steps x) ((B.Plan.meaning self.now.second).steps y)) }
+        ensures { result ≡ length (step_pairs (B.meaning self.now.second).states ((A.meaning self.now.first).steps x) ((B.meaning self.now.second).steps y)) }
     {
         self.first.step_count(x) * self.second.step_count(y)
     }
@@ -32,7 +32,7 @@ impl<A: Plan, B: Plan> Joined<A, B> {
     // Where step i of those leads: each step of the first plan with each of the second, the first's order
     // outermost; 0 where there is no such step.
     fn pair_step(&self, x: usize, y: usize, i: usize) -> usize
-        ensures { result ≡ slice_index (step_pairs (B.Plan.meaning self.now.second).states ((A.Plan.meaning self.now.first).steps x) ((B.Plan.meaning self.now.second).steps y)) i }
+        ensures { result ≡ slice_index (step_pairs (B.meaning self.now.second).states ((A.meaning self.now.first).steps x) ((B.meaning self.now.second).steps y)) i }
     {
         if i >= self.pair_step_count(x, y) {
             return 0;
@@ -44,9 +44,9 @@ impl<A: Plan, B: Plan> Joined<A, B> {
 
 // Past the limits the answers are those of one marked state without steps or channels.
 impl<A: Plan, B: Plan> Plan for Joined<A, B> {
-    ghost meaning = { joined_meaning A.Plan.meaning B.Plan.meaning };
+    ghost meaning = { joined_meaning A.meaning B.meaning };
 
-    ghost lawful = { λ x. joined_lawful _ _ (A.Plan.lawful x.first) (B.Plan.lawful x.second) };
+    ghost lawful = { λ x. joined_lawful _ _ (A.lawful x.first) (B.lawful x.second) };
 
     fn states(&self) -> usize {
         if self.fits() {

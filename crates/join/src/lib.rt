@@ -50,9 +50,9 @@ impl JoinRefusal {
 impl<A: Plan, B: Plan> Joined<A, B> {
     // Sets two plans side by side, or hands both back as they were.
     pub fn join(first: A, second: B) -> Result<Joined<A, B>, NotJoined<A, B>>
-        ensures numbers { joining_numbers (joined_meaning A.Plan.meaning B.Plan.meaning) result ≡ join_answer (A.Plan.meaning first) (B.Plan.meaning second) }
+        ensures numbers { joining_numbers (joined_meaning A.meaning B.meaning) result ≡ join_answer (A.meaning first) (B.meaning second) }
         ensures plans { MatchResult result (λ j. (j.first ≡ first) × (j.second ≡ second)) (λ e. (e.first ≡ first) × (e.second ≡ second)) }
-        ensures meets { IfOk result (λ j. SideBySide (A.Plan.meaning first) (B.Plan.meaning second) (joined_meaning A.Plan.meaning B.Plan.meaning j)) }
+        ensures meets { IfOk result (λ j. SideBySide (A.meaning first) (B.meaning second) (joined_meaning A.meaning B.meaning j)) }
     {
         let states = first.states() * second.states();
         if states > 128 {
@@ -84,7 +84,7 @@ impl<A: Plan, B: Plan> Joined<A, B> {
 
     // Do the two plans keep the limits of a joined one?
     fn fits(&self) -> bool
-        ensures { result ≡ fits_join (A.Plan.meaning self.now.first) (B.Plan.meaning self.now.second) }
+        ensures { result ≡ fits_join (A.meaning self.now.first) (B.meaning self.now.second) }
     {
         (self.first.states() * self.second.states() <= 128)
             & (self.first.channels() + self.second.channels() <= 4)
@@ -93,7 +93,7 @@ impl<A: Plan, B: Plan> Joined<A, B> {
 
 // The five numbers of joining: the joined plan's states and channels in p and q, or the refusal's.
 pub fn joining_answer<A: Plan, B: Plan>(joining: &Result<Joined<A, B>, NotJoined<A, B>>) -> Answer
-    ensures { result ≡ joining_numbers (joined_meaning A.Plan.meaning B.Plan.meaning) joining.now }
+    ensures { result ≡ joining_numbers (joined_meaning A.meaning B.meaning) joining.now }
 {
     match joining {
         Ok(both) => Answer::success(both.states(), both.channels()),

@@ -17,8 +17,8 @@ use vet::Vetted;
 
 // Goes through the rounds until one changes nothing: then what is left is covered, and no pair of a fitting set was ever struck.
 fn refine<A: Plan, B: Plan, R: Rule>(first: &A, second: &B, rule: &R) -> Result<PairTable, NoFit>
-    requires { (A.Plan.meaning first.now).channels ≡ (B.Plan.meaning second.now).channels }
-    ensures { FitAsked (A.Plan.meaning first.now) (B.Plan.meaning second.now) (R.Rule.says rule.now) (kept_result result) }
+    requires { (A.meaning first.now).channels ≡ (B.meaning second.now).channels }
+    ensures { FitAsked (A.meaning first.now) (B.meaning second.now) (R.says rule.now) (kept_result result) }
 {
     let next = Closings {
         first: next_closings(first),
@@ -39,11 +39,11 @@ pub fn find_largest<A: Plan, B: Plan, R: Rule>(
     second: &Vetted<B>,
     rule: &R,
 ) -> Result<PairTable, NoFit>
-    requires first_found { Finds (A.Plan.meaning first.now.plan) first.now.finding }
-    requires second_found { Finds (B.Plan.meaning second.now.plan) second.now.finding }
-    ensures finds { FindsLargest (A.Plan.meaning first.now.plan) (B.Plan.meaning second.now.plan) (R.Rule.says rule.now) (kept_result result) }
-    ensures only { OnlyOne (FindsLargest (A.Plan.meaning first.now.plan) (B.Plan.meaning second.now.plan) (R.Rule.says rule.now)) }
-    ensures shallow { NoneFitsMeans (A.Plan.meaning first.now.plan) (B.Plan.meaning second.now.plan) (R.Rule.says rule.now) }
+    requires first_found { Finds (A.meaning first.now.plan) first.now.finding }
+    requires second_found { Finds (B.meaning second.now.plan) second.now.finding }
+    ensures finds { FindsLargest (A.meaning first.now.plan) (B.meaning second.now.plan) (R.says rule.now) (kept_result result) }
+    ensures only { OnlyOne (FindsLargest (A.meaning first.now.plan) (B.meaning second.now.plan) (R.says rule.now)) }
+    ensures shallow { NoneFitsMeans (A.meaning first.now.plan) (B.meaning second.now.plan) (R.says rule.now) }
 {
     compare_plans(first, second)?;
     refine(first.plan(), second.plan(), rule)

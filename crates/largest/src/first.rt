@@ -19,8 +19,8 @@ fn is_acceptable<A: Plan, B: Plan, R: Rule>(
     s: usize,
     t: usize,
 ) -> bool
-    requires { (A.Plan.meaning first.now).channels ≡ (B.Plan.meaning second.now).channels }
-    ensures { Decides result (Acceptable (A.Plan.meaning first.now) (B.Plan.meaning second.now) (R.Rule.says rule.now) s t) }
+    requires { (A.meaning first.now).channels ≡ (B.meaning second.now).channels }
+    ensures { Decides result (Acceptable (A.meaning first.now) (B.meaning second.now) (R.says rule.now) s t) }
 {
     lowest_refused(first, second, rule, s, t).is_none()
 }
@@ -33,9 +33,9 @@ fn put_compatible<A: Plan, B: Plan, R: Rule>(
     s: usize,
     pairs: &mut PairTable,
 )
-    requires as_many { (A.Plan.meaning first.now).channels ≡ (B.Plan.meaning second.now).channels }
-    requires marked { Marked (A.Plan.meaning first.now) s }
-    ensures { RowAdded (Compatible (A.Plan.meaning first.now) (B.Plan.meaning second.now) (R.Rule.says rule.now)) s (B.Plan.meaning second.now).states (kept_pairs pairs.old) (kept_pairs pairs.new) }
+    requires as_many { (A.meaning first.now).channels ≡ (B.meaning second.now).channels }
+    requires marked { Marked (A.meaning first.now) s }
+    ensures { RowAdded (Compatible (A.meaning first.now) (B.meaning second.now) (R.says rule.now)) s (B.meaning second.now).states (kept_pairs pairs.old) (kept_pairs pairs.new) }
 {
     for t in 0..second.states() {
         if second.marked(t) && is_acceptable(first, second, rule, s, t) {
@@ -50,8 +50,8 @@ pub(crate) fn compatible_pairs<A: Plan, B: Plan, R: Rule>(
     second: &B,
     rule: &R,
 ) -> PairTable
-    requires { (A.Plan.meaning first.now).channels ≡ (B.Plan.meaning second.now).channels }
-    ensures { Round (A.Plan.meaning first.now) (B.Plan.meaning second.now) (R.Rule.says rule.now) 0 (kept_pairs result) }
+    requires { (A.meaning first.now).channels ≡ (B.meaning second.now).channels }
+    ensures { Round (A.meaning first.now) (B.meaning second.now) (R.says rule.now) 0 (kept_pairs result) }
 {
     let mut pairs = PairTable::empty();
     for s in 0..first.states() {

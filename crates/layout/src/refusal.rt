@@ -42,7 +42,7 @@ impl FileRefusal {
 
 // The five numbers of an opening: the plan's states and channels in p and q, or the refusal's.
 pub fn opening_answer<P: Plan>(opening: &Result<P, FileRefusal>) -> Answer
-    ensures { result ≡ opening_numbers meaning opening.now }
+    ensures { result ≡ opening_numbers P.meaning opening.now }
 {
     match opening {
         Ok(plan) => Answer::success(plan.states(), plan.channels()),

@@ -13,7 +13,7 @@ pub fn lowest_refused<A: Plan, B: Plan, R: Rule>(
     s: usize,
     t: usize,
 ) -> Option<usize>
-    ensures { LowestRefused (A.Plan.meaning first.now) (B.Plan.meaning second.now) (R.Rule.says rule.now) s t result }
+    ensures { LowestRefused (A.meaning first.now) (B.meaning second.now) (R.says rule.now) s t result }
 {
     for channel in 0..first.channels() {
         if !rule.accepts(channel, first.code(s, channel), second.code(t, channel)) {

@@ -49,7 +49,7 @@ pub(crate) fn answer_commands<'a, A: Plan + Drop, B: Plan + Drop>(
     answers: &mut [Answer],
 )
     requires { (length commands.now ≤ length calls.old) × (length commands.now ≤ length answers.old) }
-    ensures { Answered (A.Plan.meaning first) (B.Plan.meaning second) file.now commands.now answers.new }
+    ensures { Answered (A.meaning first) (B.meaning second) file.now commands.now answers.new }
 {
     let mut comparison = Comparison::open(Vetted::vet(first), Vetted::vet(second), Exact);
     let n = make_calls(commands, file, calls);

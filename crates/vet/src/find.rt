@@ -10,23 +10,23 @@ use walk::{has, led_from, led_from_marked};
 
 // Can this state be reached from a marked one, and is it unmarked? `led` has the states that marked ones lead to.
 fn is_between<P: Plan>(plan: &P, led: &[bool; 128], state: usize) -> bool
-    requires { MarkedLeadInto (meaning plan.now) led.now }
-    ensures { Decides result (Between (meaning plan.now) state) }
+    requires { MarkedLeadInto (P.meaning plan.now) led.now }
+    ensures { Decides result (Between (P.meaning plan.now) state) }
 {
     has(led, state) & !plan.marked(state)
 }
 
 // Does this state lead back to itself?
 fn leads_back<P: Plan>(plan: &P, state: usize) -> bool
-    ensures { Decides result (Leads (meaning plan.now) state state) }
+    ensures { Decides result (Leads (P.meaning plan.now) state state) }
 {
     has(&led_from(plan, state), state)
 }
 
 // The lowest unmarked state that can be reached from a marked one and has no step.
 fn lowest_stuck<P: Plan>(plan: &P, led: &[bool; 128]) -> Option<usize>
-    requires { MarkedLeadInto (meaning plan.now) led.now }
-    ensures { MatchOption result ((u : ℕ) → Stuck (meaning plan.now) u → ⊥) (LowestSuch (Stuck (meaning plan.now))) }
+    requires { MarkedLeadInto (P.meaning plan.now) led.now }
+    ensures { MatchOption result ((u : ℕ) → Stuck (P.meaning plan.now) u → ⊥) (LowestSuch (Stuck (P.meaning plan.now))) }
 {
     for s in 0..plan.states() {
         if is_between(plan, led, s) && plan.step_count(s) == 0 {
@@ -38,8 +38,8 @@ fn lowest_stuck<P: Plan>(plan: &P, led: &[bool; 128]) -> Option<usize>
 
 // The lowest unmarked state that can be reached from a marked one and lies on a cycle of unmarked states.
 fn lowest_circling<P: Plan>(plan: &P, led: &[bool; 128]) -> Option<usize>
-    requires { MarkedLeadInto (meaning plan.now) led.now }
-    ensures { MatchOption result ((u : ℕ) → Circling (meaning plan.now) u → ⊥) (LowestSuch (Circling (meaning plan.now))) }
+    requires { MarkedLeadInto (P.meaning plan.now) led.now }
+    ensures { MatchOption result ((u : ℕ) → Circling (P.meaning plan.now) u → ⊥) (LowestSuch (Circling (P.meaning plan.now))) }
 {
     for s in 0..plan.states() {
         if is_between(plan, led, s) && leads_back(plan, s) {
@@ -51,7 +51,7 @@ fn lowest_circling<P: Plan>(plan: &P, led: &[bool; 128]) -> Option<usize>
 
 // Puts the three questions in their order.
 pub(crate) fn find_fault<P: Plan>(plan: &P) -> Finding
-    ensures { Finds (meaning plan.now) result }
+    ensures { Finds (P.meaning plan.now) result }
 {
     let start = plan.start();
     if !plan.marked(start) {

@@ -26,9 +26,9 @@ impl<P: Plan> Vetted<P> {
     // sound, each run from its start has a closing among any 128 states in a row, and halts only at a closing.
     pub fn vet(plan: P) -> Vetted<P>
         ensures same_plan { result.plan ≡ plan }
-        ensures finds { Finds (meaning plan) result.finding }
-        ensures only { OneFinding (meaning plan) }
-        ensures closes { result.finding ≡ SoundPlan → KeepsClosing (meaning plan) }
+        ensures finds { Finds (P.meaning plan) result.finding }
+        ensures only { OneFinding (P.meaning plan) }
+        ensures closes { result.finding ≡ SoundPlan → KeepsClosing (P.meaning plan) }
     {
         let finding = find_fault(&plan);
         Vetted { plan, finding }

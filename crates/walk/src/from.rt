@@ -18,7 +18,7 @@ fn only(state: usize) -> [bool; 128]
 
 // The set of the marked states.
 fn marks<P: Plan>(plan: &P) -> [bool; 128]
-    ensures { (s : ℕ) → slice_index_or result s false ≡ (meaning plan.now).mark s }
+    ensures { (s : ℕ) → slice_index_or result s false ≡ (P.meaning plan.now).mark s }
 {
     let mut states = [false; 128];
     for s in 0..plan.states() {
@@ -29,7 +29,7 @@ fn marks<P: Plan>(plan: &P) -> [bool; 128]
 
 // The states that the first ones lead to.
 fn led_from_all<P: Plan>(plan: &P, first: &[bool; 128]) -> [bool; 128]
-    ensures { Walked (meaning plan.now) first.now result }
+    ensures { Walked (P.meaning plan.now) first.now result }
 {
     let mut reached = [false; 128];
     let mut queued = [false; 128];
@@ -40,14 +40,14 @@ fn led_from_all<P: Plan>(plan: &P, first: &[bool; 128]) -> [bool; 128]
 
 // The states that this one leads to, by one or more steps with only unmarked states between.
 pub fn led_from<P: Plan>(plan: &P, state: usize) -> [bool; 128]
-    ensures { LeadsInto (meaning plan.now) state result }
+    ensures { LeadsInto (P.meaning plan.now) state result }
 {
     led_from_all(plan, &only(state))
 }
 
 // The states that some marked state leads to.
 pub fn led_from_marked<P: Plan>(plan: &P) -> [bool; 128]
-    ensures { MarkedLeadInto (meaning plan.now) result }
+    ensures { MarkedLeadInto (P.meaning plan.now) result }
 {
     led_from_all(plan, &marks(plan))
 }

@@ -29,8 +29,8 @@ fn reach<P: Plan>(
     queue: &mut [usize],
     len: usize,
 ) -> usize
-    requires { (Room (meaning plan.now).states (record { reached = reached.now; queued = queued.old; queue = queue.old; len = len })) × (state < (meaning plan.now).states) }
-    ensures { Reached (meaning plan.now) state (record { reached = reached.entry.now; queued = queued.old; queue = queue.old; len = len }) (record { reached = reached.exit.now; queued = queued.new; queue = queue.new; len = result }) }
+    requires { (Room (P.meaning plan.now).states (record { reached = reached.now; queued = queued.old; queue = queue.old; len = len })) × (state < (P.meaning plan.now).states) }
+    ensures { Reached (P.meaning plan.now) state (record { reached = reached.old; queued = queued.old; queue = queue.old; len = len }) (record { reached = reached.new; queued = queued.new; queue = queue.new; len = result }) }
 {
     reached[state] = true;
     if plan.marked(state) || queued[state] {
@@ -50,8 +50,8 @@ fn expand<P: Plan>(
     queue: &mut [usize],
     len: usize,
 ) -> usize
-    requires { Room (meaning plan.now).states (record { reached = reached.now; queued = queued.old; queue = queue.old; len = len }) }
-    ensures { Spread (meaning plan.now) state (length ((meaning plan.now).steps state)) (record { reached = reached.entry.now; queued = queued.old; queue = queue.old; len = len }) (record { reached = reached.exit.now; queued = queued.new; queue = queue.new; len = result }) }
+    requires { Room (P.meaning plan.now).states (record { reached = reached.now; queued = queued.old; queue = queue.old; len = len }) }
+    ensures { Spread (P.meaning plan.now) state (length ((P.meaning plan.now).steps state)) (record { reached = reached.old; queued = queued.old; queue = queue.old; len = len }) (record { reached = reached.new; queued = queued.new; queue = queue.new; len = result }) }
 {
     let mut waiting = len;
     for i in 0..plan.step_count(state) {
@@ -96,8 +96,8 @@ pub fn walk<P: Plan>(
     queued: &mut [bool],
     queue: &mut [usize],
 ) -> bool
-    ensures room { result ≡ enough (meaning plan.now).states (length reached.old) (length queued.old) (length queue.old) }
-    ensures marks { result ≡ true → Walked (meaning plan.now) first.now reached.new }
+    ensures room { result ≡ enough (P.meaning plan.now).states (length reached.old) (length queued.old) (length queue.old) }
+    ensures marks { result ≡ true → Walked (P.meaning plan.now) first.now reached.new }
     ensures untouched { result ≡ false → (reached.new ≡ reached.old) × (queued.new ≡ queued.old) × (queue.new ≡ queue.old) }
 {
     let states = plan.states();

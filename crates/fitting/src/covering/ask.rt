@@ -11,7 +11,7 @@ use plan::{Plan, Side};
 impl Covering {
     // The tables of two plans and a set of pairs.
     pub(crate) fn of<A: Plan, B: Plan>(first: &A, second: &B, pairs: &PairTable) -> Covering
-        ensures { Covers (A.Plan.meaning first.now) (B.Plan.meaning second.now) (kept_pairs pairs.now) result }
+        ensures { Covers (A.meaning first.now) (B.meaning second.now) (kept_pairs pairs.now) result }
     {
         let first_next = next_closings(first);
         let second_next = next_closings(second);

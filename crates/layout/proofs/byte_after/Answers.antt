@@ -7,7 +7,7 @@ use Rattle.layout.proofs.byte_after.Goals as goal
 pub returns : goal.returns
 returns c =
     let b = c.args.bytes.now in
-    let at = c.saturating-add.result in
+    let at = c.saturating_add.result in
     let sum = c.args.at + c.args.by in
     let same : get_or b at 0 ≡ get_or b sum 0 =
     ⊎_elim

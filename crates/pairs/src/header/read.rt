@@ -31,7 +31,7 @@ impl PairHeader {
 
     // The states of row i, zeros where there is no such row.
     pub fn row(&self, bytes: &[u8], i: usize) -> (usize, usize)
-        ensures { result ≡ (if nat_lt i self.now.count then (byte_at bytes.now (self.now.rows + 2 * i), byte_at bytes.now (self.now.rows + 2 * i + 1)) else 0, 0) }
+        ensures { result ≡ (if nat_lt i self.now.count then (byte_at bytes.now (self.now.rows + 2 * i), byte_at bytes.now (self.now.rows + 2 * i + 1)) else (0, 0)) }
     {
         if i >= self.count {
             return (0, 0);

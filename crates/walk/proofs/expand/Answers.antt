@@ -8,4 +8,4 @@ loop-i-preserved g c =
     let m = g.P.Plan.meaning c.args.plan.now in
     subst (Spread m c.args.state (c.loop-i.i + 1) _) (sym c.reach-waiting.ensures)
     (spread_more m c.args.state c.loop-i.i c.step.result _ _ (g.met.P.Plan.lawful c.args.plan.now)
-    (omega (arith, c.step-count-i-end.ensures)) c.step.ensures c.loop-i.invariant)
+    (omega (arith, c.step_count-i-end.ensures)) c.step.ensures c.loop-i.invariant)

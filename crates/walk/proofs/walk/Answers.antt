@@ -3,8 +3,8 @@ use Rattle.std.proofs.lemmas.Bool.{and_from, le-leb, true≢false}
 use Rattle.walk.proofs.Ways.{walking_start, walking_more, walked_all}
 use Rattle.walk.proofs.walk.Goals as goal
 
-pub overflow-add-done : goal.overflow-add-done
-overflow-add-done g c = record { fits = omega (arith, c.loop-done.invariant.has_room.places, (g.met.P.Plan.lawful c.args.plan.now).few) }
+pub overflow_add-done : goal.overflow_add-done
+overflow_add-done g c = record { fits = omega (arith, c.loop-done.invariant.has_room.places, (g.met.P.Plan.lawful c.args.plan.now).few) }
 
 pub loop-done-preserved : goal.loop-done-preserved
 loop-done-preserved g c =

@@ -12,7 +12,7 @@ loop-state-init c =
 pub loop-state-preserved : goal.loop-state-preserved
 loop-state-preserved c =
     let P = CoveredBy (kept_pairs c.args.next.now) (kept_pairs c.args.pairs.now) in
-    rows_more P c.loop-state.state 128 (kept_pairs c.loop-state.covered) _ c.loop-state.invariant c.put-covered.ensures
+    rows_more P c.loop-state.state 128 (kept_pairs c.loop-state.covered) _ c.loop-state.invariant c.put_covered.ensures
     (λ x found. (has_below c.args.pairs.now x found.0 found.2).0)
 
 pub returns : goal.returns

@@ -19,10 +19,10 @@ loop-x-preserved c =
     let mid = kept_pairs c.loop-x.covered in
     elim c.if-covers.branch [
       | then-covers w ↦
-          subst (λ (table : PairTable). RowAdded P s (x + 1) old (kept_pairs table)) (sym w.covered_is)
+          subst (λ (table : PairTable). RowAdded P s (x + 1) old (kept_pairs table)) (sym w.covered-is)
           (row_put P s old x mid _ c.loop-x.invariant (c.covers.ensures.0 w.if-covers.true) (pair_fits s x c.requires c.loop-x-test.true) w.put.ensures)
       | else-covers w ↦
-          subst (λ (table : PairTable). RowAdded P s (x + 1) old (kept_pairs table)) (sym w.covered_is)
+          subst (λ (table : PairTable). RowAdded P s (x + 1) old (kept_pairs table)) (sym w.covered-is)
           (row_skip P s old x mid c.loop-x.invariant (λ found. both_ways c.covers.result w.if-covers.false (c.covers.ensures.1 found)))
     ]
 

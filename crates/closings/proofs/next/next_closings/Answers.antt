@@ -20,10 +20,10 @@ loop-s-preserved g c =
     let s = c.loop-s.s in
     elim c.if-marked.branch [
       | then-marked w ↦
-          subst (λ (table : PairTable). RowsBelow (Follows m) (s + 1) (kept_pairs table)) (sym w.next_is)
-          (rows_more (Follows m) s m.states (kept_pairs c.loop-s.next) _ c.loop-s.invariant w.put-closings.ensures (λ x next. next_below m laws s x next.1.0))
+          subst (λ (table : PairTable). RowsBelow (Follows m) (s + 1) (kept_pairs table)) (sym w.next-is)
+          (rows_more (Follows m) s m.states (kept_pairs c.loop-s.next) _ c.loop-s.invariant w.put_closings.ensures (λ x next. next_below m laws s x next.1.0))
       | else-marked w ↦
-          subst (λ (table : PairTable). RowsBelow (Follows m) (s + 1) (kept_pairs table)) (sym w.next_is)
+          subst (λ (table : PairTable). RowsBelow (Follows m) (s + 1) (kept_pairs table)) (sym w.next-is)
           (rows_skip (Follows m) s (kept_pairs c.loop-s.next) c.loop-s.invariant (λ x next. both_ways (m.mark s) (sym w.if-marked.ensures) next.0))
     ]
 

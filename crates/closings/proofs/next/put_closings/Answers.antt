@@ -6,7 +6,7 @@ use Rattle.closings.specs.Tables.{RowAdded, Follows}
 use Rattle.closings.proofs.Tables.{pair_fits, row_none, row_put, row_skip}
 use Rattle.closings.proofs.Nexts.{marked_below, next_is}
 use Rattle.closings.proofs.next.put_closings.Goals as goal
-use Rattle.closings.proofs.next.put_closings.Goals.{then-is-closing, else-is-closing}
+use Rattle.closings.proofs.next.put_closings.Goals.{then-is_closing, else-is_closing}
 
 pub loop-t-init : goal.loop-t-init
 loop-t-init g c = row_none (Follows (g.P.Plan.meaning c.args.plan.now)) c.args.state (kept_pairs c.args.next.now)
@@ -19,16 +19,16 @@ loop-t-preserved g c =
     let t = c.loop-t.t in
     let old = kept_pairs c.args.next.now in
     let mid = kept_pairs c.loop-t.next in
-    let says = next_is m s t c.led-from-led.result c.is-closing.result c.led-from-led.ensures c.is-closing.ensures in
+    let says = next_is m s t c.led_from-led.result c.is_closing.result c.led_from-led.ensures c.is_closing.ensures in
     let small : s < 128 = omega (arith, marked_below m laws s c.requires, laws.few) in
     let small' : t < 128 = omega (arith, c.loop-t-test.true, c.states-t-end.ensures, laws.few) in
-    elim c.if-is-closing.branch [
-      | then-is-closing w ↦
-          subst (λ (table : PairTable). RowAdded (Follows m) s (t + 1) old (kept_pairs table)) (sym w.next_is)
-          (row_put (Follows m) s old t mid _ c.loop-t.invariant (c.requires, says.0 w.if-is-closing.true) (pair_fits s t small small') w.put.ensures)
-      | else-is-closing w ↦
-          subst (λ (table : PairTable). RowAdded (Follows m) s (t + 1) old (kept_pairs table)) (sym w.next_is)
-          (row_skip (Follows m) s old t mid c.loop-t.invariant (λ next. both_ways c.is-closing.result w.if-is-closing.false (says.1 next.1)))
+    elim c.if-is_closing.branch [
+      | then-is_closing w ↦
+          subst (λ (table : PairTable). RowAdded (Follows m) s (t + 1) old (kept_pairs table)) (sym w.next-is)
+          (row_put (Follows m) s old t mid _ c.loop-t.invariant (c.requires, says.0 w.if-is_closing.true) (pair_fits s t small small') w.put.ensures)
+      | else-is_closing w ↦
+          subst (λ (table : PairTable). RowAdded (Follows m) s (t + 1) old (kept_pairs table)) (sym w.next-is)
+          (row_skip (Follows m) s old t mid c.loop-t.invariant (λ next. both_ways c.is_closing.result w.if-is_closing.false (says.1 next.1)))
     ]
 
 pub returns : goal.returns

@@ -17,9 +17,9 @@ returns-then-digit-lt48 c =
 
 pub loop-digit-preserved : goal.loop-digit-preserved
 loop-digit-preserved c =
-    number_more c.args.field.now c.loop-digit.digit-index c.loop-digit.number c.loop-digit.invariant c.loop-digit-test.true (sym c.if-not-has-number-length.ensures) c.if-digit-lt48.false
+    number_more c.args.field.now c.loop-digit.digit-index c.loop-digit.number c.loop-digit.invariant c.loop-digit-test.true (sym c.if-not-has_number_length.ensures) c.if-digit-lt48.false
     c.if-digit-gt57.false
 
 pub returns : goal.returns
 returns c =
-    number_all c.args.field.now c.loop-digit.digit-index c.loop-digit.number c.loop-digit.invariant c.loop-digit-test.false (sym c.if-not-has-number-length.ensures)
+    number_all c.args.field.now c.loop-digit.digit-index c.loop-digit.number c.loop-digit.invariant c.loop-digit-test.false (sym c.if-not-has_number_length.ensures)

@@ -8,5 +8,5 @@ pub returns : goal.returns
 returns c =
     let input = c.args.input.now in
     let at = c.args.at in
-    line_at input at c.length-before.result c.requires (c.length-before.ensures.before ∙ ap (bytes_before 10) (take_rest input at))
-    (subst (λ xs. c.length-before.result ≤ length xs) (take_rest input at) c.length-before.ensures.within)
+    line_at input at c.length_before.result c.requires (c.length_before.ensures.before ∙ ap (bytes_before 10) (take_rest input at))
+    (subst (λ xs. c.length_before.result ≤ length xs) (take_rest input at) c.length_before.ensures.within)

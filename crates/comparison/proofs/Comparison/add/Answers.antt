@@ -8,14 +8,14 @@ pub returns : goal.returns
 returns g c =
     let here = c.args.self.now in
     let setting : Setting = setting_of g.A.Plan.meaning g.B.Plan.meaning g.R.Rule.says here in
-    let there = c.put-in.new.self in
-    let stays = setting_stays g.A.Plan.meaning g.B.Plan.meaning g.R.Rule.says here there c.put-in.ensures.same in
-    let after = added setting (standing here) (standing there) c.args.s c.args.t c.put-in.result c.in-default.ensures c.put-in.ensures.stood c.requires.only_marked
-    (g.met.A.Plan.lawful here.first.plan).few (g.met.B.Plan.lawful here.second.plan).few c.put-in.ensures.pairs in
+    let there = c.put_in.new.self in
+    let stays = setting_stays g.A.Plan.meaning g.B.Plan.meaning g.R.Rule.says here there c.put_in.ensures.same in
+    let after = added setting (standing here) (standing there) c.args.s c.args.t c.put_in.result c.in_default.ensures c.put_in.ensures.stood c.requires.only_marked
+    (g.met.A.Plan.lawful here.first.plan).few (g.met.B.Plan.lawful here.second.plan).few c.put_in.ensures.pairs in
     record {
-      answer = change_answer setting (standing here) (standing there) c.args.s c.args.t c.put-in.result c.in-default.ensures c.put-in.ensures.stood c.requires.only_marked;
+      answer = change_answer setting (standing here) (standing there) c.args.s c.args.t c.put_in.result c.in_default.ensures c.put_in.ensures.stood c.requires.only_marked;
       pairs = after.0;
-      same = c.put-in.ensures.same;
+      same = c.put_in.ensures.same;
       consistent =
           subst (λ (x : Setting). Consistent x (standing there)) (sym stays)
           (record { first_found = c.requires.first_found; second_found = c.requires.second_found; only_marked = after.1 });

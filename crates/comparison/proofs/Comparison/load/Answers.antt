@@ -10,7 +10,7 @@ returns-in-Some g c =
     let here = c.args.self.now in
     let b = c.args.file.now in
     let setting : Setting = setting_of g.A.Plan.meaning g.B.Plan.meaning g.R.Rule.says here in
-    let refused = load_refused setting b c.in-ok-header.header c.in-ok-header.ensures (c.in-Some.row, c.in-Some.refusal) c.in-Some.ensures in
+    let refused = load_refused setting b c.in_ok-header.header c.in_ok-header.ensures (c.in-Some.row, c.in-Some.refusal) c.in-Some.ensures in
     record {
       answer = sym refused;
       pairs = kept_after setting b (standing here) (ap (λ x. eqb x.number 0) refused ∙ refused_number c.in-Some.row c.in-Some.refusal);
@@ -22,8 +22,8 @@ pub fill-requires : goal.fill-requires
 fill-requires g c =
     let here = c.args.self.now in
     let setting : Setting = setting_of g.A.Plan.meaning g.B.Plan.meaning g.R.Rule.says here in (
-      c.in-ok-header.ensures,
-      rows_fit_table setting c.args.file.now (g.met.A.Plan.lawful here.first.plan).few (g.met.B.Plan.lawful here.second.plan).few _ c.in-default.ensures,
+      c.in_ok-header.ensures,
+      rows_fit_table setting c.args.file.now (g.met.A.Plan.lawful here.first.plan).few (g.met.B.Plan.lawful here.second.plan).few _ c.in_default.ensures,
     )
 
 pub returns : goal.returns
@@ -33,8 +33,8 @@ returns g c =
     let b = c.args.file.now in
     let setting : Setting = setting_of g.A.Plan.meaning g.B.Plan.meaning g.R.Rule.says here in
     let stays = setting_stays g.A.Plan.meaning g.B.Plan.meaning g.R.Rule.says here there c.replace.ensures.same in
-    let header = c.in-ok-header.ensures in
-    let accepted = load_accepted setting b c.in-ok-header.header header c.in-default.ensures in
+    let header = c.in_ok-header.ensures in
+    let accepted = load_accepted setting b c.in_ok-header.header header c.in_default.ensures in
     let now-stand = c.replace.ensures.pairs ∙ c.fill.ensures in
     record {
       answer = ap (λ n. success n 0) (c.count.ensures ∙ header.count_read) ∙ sym accepted;
@@ -45,6 +45,6 @@ returns g c =
           (record {
             first_found = c.requires.first_found;
             second_found = c.requires.second_found;
-            only_marked = subst (OnlyMarked setting) (sym now-stand) (rows_marked setting b _ c.in-default.ensures);
+            only_marked = subst (OnlyMarked setting) (sym now-stand) (rows_marked setting b _ c.in_default.ensures);
           });
     }

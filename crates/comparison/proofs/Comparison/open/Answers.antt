@@ -15,10 +15,10 @@ returns g c =
     } in
     record {
       parts = (refl, refl, refl);
-      none = c.nothing-stands.ensures;
+      none = c.nothing_stands.ensures;
       consistent = record {
         first_found = c.requires.0;
         second_found = c.requires.1;
-        only_marked = subst (OnlyMarked setting) (sym c.nothing-stands.ensures) (marked_none setting no_pairs);
+        only_marked = subst (OnlyMarked setting) (sym c.nothing_stands.ensures) (marked_none setting no_pairs);
       };
     }

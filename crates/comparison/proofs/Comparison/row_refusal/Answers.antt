@@ -13,7 +13,7 @@ loop-i-preserved g c =
     let row = row_is b c.args.header.now c.loop-i.i c.row-s.result c.requires low c.row-s.ensures in
     let here : row_refused setting b c.loop-i.i ≡ None =
     sym
-    (c.in-default.ensures
+    (c.in_default.ensures
     ∙ ap (λ s. pair_refused setting s c.row-s.result.1) row.0
     ∙ ap (pair_refused setting (first_in b c.loop-i.i)) row.1) in
     below_more (λ i. row_refused setting b i ≡ None) c.loop-i.i c.loop-i.invariant here

@@ -8,13 +8,13 @@ pub returns : goal.returns
 returns g c =
     let here = c.args.self.now in
     let setting : Setting = setting_of g.A.Plan.meaning g.B.Plan.meaning g.R.Rule.says here in
-    let there = c.take-out.new.self in
-    let stays = setting_stays g.A.Plan.meaning g.B.Plan.meaning g.R.Rule.says here there c.take-out.ensures.same in
-    let after = struck setting (standing here) (standing there) c.args.s c.args.t c.take-out.result c.in-default.ensures c.take-out.ensures.stood c.requires.only_marked c.take-out.ensures.pairs in
+    let there = c.take_out.new.self in
+    let stays = setting_stays g.A.Plan.meaning g.B.Plan.meaning g.R.Rule.says here there c.take_out.ensures.same in
+    let after = struck setting (standing here) (standing there) c.args.s c.args.t c.take_out.result c.in_default.ensures c.take_out.ensures.stood c.requires.only_marked c.take_out.ensures.pairs in
     record {
-      answer = change_answer setting (standing here) (standing there) c.args.s c.args.t c.take-out.result c.in-default.ensures c.take-out.ensures.stood c.requires.only_marked;
+      answer = change_answer setting (standing here) (standing there) c.args.s c.args.t c.take_out.result c.in_default.ensures c.take_out.ensures.stood c.requires.only_marked;
       pairs = after.0;
-      same = c.take-out.ensures.same;
+      same = c.take_out.ensures.same;
       consistent =
           subst (λ (x : Setting). Consistent x (standing there)) (sym stays)
           (record { first_found = c.requires.first_found; second_found = c.requires.second_found; only_marked = after.1 });

@@ -5,7 +5,7 @@ use Rattle.pairs.specs.Pairs.{kept_pairs}
 use Rattle.closings.proofs.Nexts.{marked_below}
 use Rattle.fitting.proofs.Scans.{all_none, all_more, row_more, first_such}
 use Rattle.fitting.proofs.judging.first_unacceptable.Goals as goal
-use Rattle.fitting.proofs.judging.first_unacceptable.Goals.{then-stands+in-default, else-stands}
+use Rattle.fitting.proofs.judging.first_unacceptable.Goals.{then-stands+in_default, else-stands}
 
 pub loop-s-init : goal.loop-s-init
 loop-s-init g c = all_none (kept_pairs c.args.pairs.now) _
@@ -38,9 +38,9 @@ loop-t-preserved g c =
     let b = g.B.Plan.meaning c.args.second.now in
     let says = g.R.Rule.says c.args.rule.now in
     elim c.if-stands.branch [
-      | then-stands+in-default w ↦
+      | then-stands+in_default w ↦
           row_more (kept_pairs c.args.pairs.now) (Acceptable a b says) c.loop-s.s c.loop-t.t c.loop-t.invariant
-          (λ has. record { as_many = c.requires.0; on_each = w.in-default.ensures })
+          (λ has. record { as_many = c.requires.0; on_each = w.in_default.ensures })
       | else-stands w ↦
           row_more (kept_pairs c.args.pairs.now) (Acceptable a b says) c.loop-s.s c.loop-t.t c.loop-t.invariant
           (λ has. absurd (both_ways (kept_pairs c.args.pairs.now c.loop-s.s c.loop-t.t) (sym w.if-stands.ensures) has))

@@ -33,7 +33,7 @@ loop-closing-preserved g c =
     let marked = c.requires.1 s t (sym c.if-stands.ensures) in
     below_more (λ x. IsUncovered a b pairs side s t x → ⊥) c.loop-closing.closing c.loop-closing.invariant
     (λ uncovered.
-    both_ways (uncovered_in c.args.covering.now side s t c.loop-closing.closing) (sym c.if-is-uncovered.ensures)
+    both_ways (uncovered_in c.args.covering.now side s t c.loop-closing.closing) (sym c.if-is_uncovered.ensures)
     ((uncovered_decides a b pairs c.args.covering.now c.requires.0 s t marked.0 marked.1 side c.loop-closing.closing).1 uncovered))
 
 pub loop-side-preserved : goal.loop-side-preserved
@@ -67,8 +67,8 @@ loop-s-preserved g c =
     all_more (kept_pairs c.args.pairs.now) _ c.loop-s.s c.loop-t.t c.loop-s.invariant c.loop-t.invariant
     (λ y has. omega (arith, marked_below b laws y (c.requires.1 c.loop-s.s y has).1))
 
-pub returns-then-is-uncovered : goal.returns-then-is-uncovered
-returns-then-is-uncovered g c =
+pub returns-then-is_uncovered : goal.returns-then-is_uncovered
+returns-then-is_uncovered g c =
     let a = g.A.Plan.meaning c.args.first.now in
     let b = g.B.Plan.meaning c.args.second.now in
     let pairs = kept_pairs c.args.pairs.now in
@@ -79,7 +79,7 @@ returns-then-is-uncovered g c =
     let has : Has pairs s t = sym c.if-stands.ensures in
     let marked = c.requires.1 s t has in
     let uncovered : IsUncovered a b pairs (side_at i) s t x =
-    (uncovered_decides a b pairs c.args.covering.now c.requires.0 s t marked.0 marked.1 (side_at i) x).0 (sym c.if-is-uncovered.ensures) in (
+    (uncovered_decides a b pairs c.args.covering.now c.requires.0 s t marked.0 marked.1 (side_at i) x).0 (sym c.if-is_uncovered.ensures) in (
       side_at i,
       s,
       t,

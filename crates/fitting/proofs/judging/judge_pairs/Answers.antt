@@ -19,13 +19,13 @@ returns-in-Some g c =
       inl (unacceptable_not _ _ _ (kept_pairs c.args.pairs.now) (Err c.in-Some.misfit) c.in-Some.ensures, c.in-Some.ensures),
     )
 
-pub returns-in-Some-first-uncovered : goal.returns-in-Some-first-uncovered
-returns-in-Some-first-uncovered g c =
+pub returns-in-Some-first_uncovered : goal.returns-in-Some-first_uncovered
+returns-in-Some-first_uncovered g c =
     inr (
       asked_starts (kept_pairs c.args.pairs.now) _ _ _ _ _ c.start.ensures c.start-2.ensures c.if-not-stands.ensures,
       inr (
-        c.in-default.ensures,
-        inl (uncovered_not _ _ (kept_pairs c.args.pairs.now) (Err c.in-Some-first-uncovered.misfit) c.in-Some-first-uncovered.ensures, c.in-Some-first-uncovered.ensures),
+        c.in_default.ensures,
+        inl (uncovered_not _ _ (kept_pairs c.args.pairs.now) (Err c.in-Some-first_uncovered.misfit) c.in-Some-first_uncovered.ensures, c.in-Some-first_uncovered.ensures),
       ),
     )
 
@@ -33,5 +33,5 @@ pub returns-in-None : goal.returns-in-None
 returns-in-None g c =
     inr (
       asked_starts (kept_pairs c.args.pairs.now) _ _ _ _ _ c.start.ensures c.start-2.ensures c.if-not-stands.ensures,
-      inr (c.in-default.ensures, inr (c.in-None.ensures, ap Ok c.count-count.ensures.count)),
+      inr (c.in_default.ensures, inr (c.in-None.ensures, ap Ok c.count-count.ensures.count)),
     )

@@ -9,14 +9,14 @@ use Rattle.largest.proofs.Shallow.{none_fits_means}
 use Rattle.largest.proofs.Verdicts.{finds_one}
 use Rattle.largest.proofs.finding.find_largest.Goals as goal
 
-pub returns-in-err-compare-plans : goal.returns-in-err-compare-plans
-returns-in-err-compare-plans g c =
+pub returns-in_err-compare_plans : goal.returns-in_err-compare_plans
+returns-in_err-compare_plans g c =
     let a = g.A.Plan.meaning c.args.first.now.plan in
     let b = g.B.Plan.meaning c.args.second.now.plan in
     let says = g.R.Rule.says c.args.rule.now in
-    let p = err_from_is_err_and c.from-residual.result c.from-residual.ensures.1 in
-    let refused : FindsLargest a b says (Err (Plans c.in-err-compare-plans.field-0.0)) =
-    plans_refuse a b (λ e. Err (Plans e)) (FitAsked a b says) c.in-err-compare-plans.field-0.0 c.in-err-compare-plans.ensures in
+    let p = err_from_is_err_and c.from_residual.result c.from_residual.ensures.1 in
+    let refused : FindsLargest a b says (Err (Plans c.in_err-compare_plans.field-0.0)) =
+    plans_refuse a b (λ e. Err (Plans e)) (FitAsked a b says) c.in_err-compare_plans.field-0.0 c.in_err-compare_plans.ensures in
     record {
       finds = subst (λ (r : Result PairTable NoFit). FindsLargest a b says (kept_result r)) (sym (p.1 ∙ ap Err p.2)) refused;
       only = finds_one a b says;
@@ -28,7 +28,7 @@ returns g c =
     let a = g.A.Plan.meaning c.args.first.now.plan in
     let b = g.B.Plan.meaning c.args.second.now.plan in
     let says = g.R.Rule.says c.args.rule.now in
-    let plans = c.in-ok-compare-plans.ensures in
+    let plans = c.in_ok-compare_plans.ensures in
     let r = kept_result c.refine.result in
     let asked : FitAsked a b says r =
     subst (λ m. FitAsked m b says r) (ap g.A.Plan.meaning c.plan.ensures)

@@ -5,27 +5,27 @@ use Rattle.largest.proofs.Refining.{LastRound, round_more, round_last, fit_found
 use Rattle.largest.proofs.finding.refine.Goals as goal
 
 pub loop-next-init : goal.loop-next-init
-loop-next-init g c = (0, c.compatible-pairs-pairs.ensures)
+loop-next-init g c = (0, c.compatible_pairs-pairs.ensures)
 
 pub loop-next-smaller : goal.loop-next-smaller
 loop-next-smaller g c = c.loop-next-test.ensures.tells
 
 pub loop-next-preserved : goal.loop-next-preserved
 loop-next-preserved g c =
-    let next : Closings = record { first = c.next-closings.result; second = c.next-closings-2.result } in
+    let next : Closings = record { first = c.next_closings.result; second = c.next_closings-2.result } in
     round_more (g.A.Plan.meaning c.args.first.now) (g.B.Plan.meaning c.args.second.now) (g.R.Rule.says c.args.rule.now)
-    next c.next-closings.ensures c.next-closings-2.ensures
-    (kept_pairs c.loop-next.pairs) (kept_pairs c.next-round.new.pairs) c.loop-next.invariant c.next-round.ensures.sweeps
+    next c.next_closings.ensures c.next_closings-2.ensures
+    (kept_pairs c.loop-next.pairs) (kept_pairs c.next_round.new.pairs) c.loop-next.invariant c.next_round.ensures.sweeps
 
 pub returns-then-stands : goal.returns-then-stands
 returns-then-stands g c =
     let a = g.A.Plan.meaning c.args.first.now in
     let b = g.B.Plan.meaning c.args.second.now in
     let says = g.R.Rule.says c.args.rule.now in
-    let next : Closings = record { first = c.next-closings.result; second = c.next-closings-2.result } in
-    let pairs = kept_pairs c.next-round.new.pairs in
+    let next : Closings = record { first = c.next_closings.result; second = c.next_closings-2.result } in
+    let pairs = kept_pairs c.next_round.new.pairs in
     let last : LastRound a b says pairs =
-    round_last a b says next c.next-closings.ensures c.next-closings-2.ensures (kept_pairs c.loop-next.pairs) pairs c.loop-next.invariant c.next-round.ensures.sweeps
+    round_last a b says next c.next_closings.ensures c.next_closings-2.ensures (kept_pairs c.loop-next.pairs) pairs c.loop-next.invariant c.next_round.ensures.sweeps
     c.loop-next-test.ensures.tells in
     fit_found a b says pairs last (asked_starts pairs _ _ _ _ _ c.start.ensures c.start-2.ensures c.if-stands.ensures)
 
@@ -34,9 +34,9 @@ returns-else-stands g c =
     let a = g.A.Plan.meaning c.args.first.now in
     let b = g.B.Plan.meaning c.args.second.now in
     let says = g.R.Rule.says c.args.rule.now in
-    let next : Closings = record { first = c.next-closings.result; second = c.next-closings-2.result } in
-    let pairs = kept_pairs c.next-round.new.pairs in
+    let next : Closings = record { first = c.next_closings.result; second = c.next_closings-2.result } in
+    let pairs = kept_pairs c.next_round.new.pairs in
     let last : LastRound a b says pairs =
-    round_last a b says next c.next-closings.ensures c.next-closings-2.ensures (kept_pairs c.loop-next.pairs) pairs c.loop-next.invariant c.next-round.ensures.sweeps
+    round_last a b says next c.next_closings.ensures c.next_closings-2.ensures (kept_pairs c.loop-next.pairs) pairs c.loop-next.invariant c.next_round.ensures.sweeps
     c.loop-next-test.ensures.tells in
     fit_missed a b says pairs last (both_ways _ (asked_starts pairs _ _ _ _ _ c.start.ensures c.start-2.ensures c.if-stands.ensures))

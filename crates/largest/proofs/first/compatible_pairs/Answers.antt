@@ -25,7 +25,7 @@ loop-s-preserved g c =
     elim c.if-marked.branch [
       | then-marked w ↦
           subst (λ (table : PairTable). RowsBelow P (s + 1) (kept_pairs table)) (sym w.pairs-is)
-          (rows_more P s b.states (kept_pairs c.loop-s.pairs) _ c.loop-s.invariant w.put-compatible.ensures (λ t compatible. marked_below b laws t compatible.second_marked))
+          (rows_more P s b.states (kept_pairs c.loop-s.pairs) _ c.loop-s.invariant w.put_compatible.ensures (λ t compatible. marked_below b laws t compatible.second_marked))
       | else-marked w ↦
           subst (λ (table : PairTable). RowsBelow P (s + 1) (kept_pairs table)) (sym w.pairs-is)
           (rows_skip P s (kept_pairs c.loop-s.pairs) c.loop-s.invariant (λ t compatible. both_ways (a.mark s) (sym w.if-marked.ensures) compatible.first_marked))

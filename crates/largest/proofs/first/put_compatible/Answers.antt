@@ -7,7 +7,7 @@ use Rattle.closings.proofs.Tables.{pair_fits, row_none, row_put, row_skip}
 use Rattle.closings.proofs.Nexts.{marked_below}
 use Rattle.fitting.specs.Bisimilarity.{Compatible}
 use Rattle.largest.proofs.first.put_compatible.Goals as goal
-use Rattle.largest.proofs.first.put_compatible.Goals.{then-marked+then-is-acceptable, else-marked, else-marked-via-then-marked+else-is-acceptable, else-marked-via-else-marked}
+use Rattle.largest.proofs.first.put_compatible.Goals.{then-marked+then-is_acceptable, else-marked, else-marked-via-then-marked+else-is_acceptable, else-marked-via-else-marked}
 
 pub loop-t-init : goal.loop-t-init
 loop-t-init g c =
@@ -28,17 +28,17 @@ loop-t-preserved g c =
     let small : s < 128 = omega (arith, marked_below a laws s c.requires.marked, laws.few) in
     let small' : t < 128 = omega (arith, c.loop-t-test.true, c.states-t-end.ensures, laws'.few) in
     elim c.if-marked.branch [
-      | then-marked+then-is-acceptable w ↦
+      | then-marked+then-is_acceptable w ↦
           subst (λ (table : PairTable). RowAdded P s (t + 1) old (kept_pairs table)) (sym w.pairs-is)
           (row_put P s old t mid _ c.loop-t.invariant
-          (record { first_marked = c.requires.marked; second_marked = sym w.if-marked.ensures; acceptable = w.is-acceptable.ensures.0 w.if-is-acceptable.true })
+          (record { first_marked = c.requires.marked; second_marked = sym w.if-marked.ensures; acceptable = w.is_acceptable.ensures.0 w.if-is_acceptable.true })
           (pair_fits s t small small') w.put.ensures)
       | else-marked w ↦
           subst (λ (table : PairTable). RowAdded P s (t + 1) old (kept_pairs table)) (sym w.pairs-is)
           (row_skip P s old t mid c.loop-t.invariant
           (λ compatible.
           elim w.else-marked.branch [
-            | else-marked-via-then-marked+else-is-acceptable w' ↦ both_ways w'.is-acceptable.result w'.if-is-acceptable.false (w'.is-acceptable.ensures.1 compatible.acceptable)
+            | else-marked-via-then-marked+else-is_acceptable w' ↦ both_ways w'.is_acceptable.result w'.if-is_acceptable.false (w'.is_acceptable.ensures.1 compatible.acceptable)
             | else-marked-via-else-marked w' ↦ both_ways (b.mark t) (sym w'.if-marked.ensures) compatible.second_marked
           ]))
     ]

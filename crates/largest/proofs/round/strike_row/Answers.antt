@@ -6,7 +6,7 @@ use Rattle.closings.proofs.Tables.{has_below}
 use Rattle.largest.specs.Sweeping.{CoveredIn, RowSwept, Tells}
 use Rattle.largest.proofs.Sweeping.{row_none, row_kept, row_struck, strike_tells}
 use Rattle.largest.proofs.round.strike_row.Goals as goal
-use Rattle.largest.proofs.round.strike_row.Goals.{then-stands+then-not-is-covered, else-stands, else-stands-via-then-stands+else-not-is-covered, else-stands-via-else-stands}
+use Rattle.largest.proofs.round.strike_row.Goals.{then-stands+then-not-is_covered, else-stands, else-stands-via-then-stands+else-not-is_covered, else-stands-via-else-stands}
 
 -- the table and the flag are these
 moved : (P : ℕ → ℕ → Type 0) (s k : ℕ) (old : Pairs) (table table' : PairTable) (flag flag' : Bool) → table ≡ table' → flag ≡ flag'
@@ -26,10 +26,10 @@ loop-t-preserved c =
     let old = kept_pairs c.args.pairs.now in
     let mid = kept_pairs c.loop-t.pairs in
     elim c.if-stands.branch [
-      | then-stands+then-not-is-covered w ↦
+      | then-stands+then-not-is_covered w ↦
           let has : Has mid s t = sym c.stands.ensures ∙ w.if-stands.true in
           moved P s (t + 1) old _ _ _ _ w.pairs-is w.struck-is (
-            row_struck P s old t mid _ c.loop-t.invariant.0 (λ covered. both_ways w.is-covered.result w.if-not-is-covered.true (w.is-covered.ensures.1 covered)) w.strike.ensures,
+            row_struck P s old t mid _ c.loop-t.invariant.0 (λ covered. both_ways w.is_covered.result w.if-not-is_covered.true (w.is_covered.ensures.1 covered)) w.strike.ensures,
             strike_tells c.loop-t.struck old mid _ s t c.loop-t.invariant.1 (has_below c.loop-t.pairs s t has).0 c.loop-t-test.true has w.strike.ensures,
           )
       | else-stands w ↦
@@ -37,7 +37,7 @@ loop-t-preserved c =
             row_kept P s old t mid c.loop-t.invariant.0
                 (λ has.
                 elim w.else-stands.branch [
-                  | else-stands-via-then-stands+else-not-is-covered w' ↦ w'.is-covered.ensures.0 w'.if-not-is-covered.false
+                  | else-stands-via-then-stands+else-not-is_covered w' ↦ w'.is_covered.ensures.0 w'.if-not-is_covered.false
                   | else-stands-via-else-stands w' ↦ absurd (both_ways (mid s t) (sym c.stands.ensures ∙ w'.if-stands.false) has)
                 ]),
             c.loop-t.invariant.1,

@@ -3,7 +3,7 @@ use Rattle.std.proofs.lemmas.List.{take_all}
 use Rattle.session.specs.Session.{MakeCalls}
 use Rattle.session.proofs.Making.{make_call_more, make_none_more}
 use Rattle.session.proofs.answers.make_calls.Goals as goal
-use Rattle.session.proofs.answers.make_calls.Goals.{in-Some, in-default}
+use Rattle.session.proofs.answers.make_calls.Goals.{in-Some, in_default}
 
 pub loop-command-preserved : goal.loop-command-preserved
 loop-command-preserved c =
@@ -13,18 +13,18 @@ loop-command-preserved c =
     let n = c.loop-command.n in
     let low : i < length commands = omega (arith, c.loop-command-test.true) in
     let place : n < length c.loop-command.calls = omega (arith, c.loop-command.invariant.0, c.requires, c.loop-command.auto.calls) in
-    elim c.match-call-of.branch [
+    elim c.match-call_of.branch [
       | in-Some w ↦ (
         omega (arith, w.n-is, c.loop-command.invariant.0),
-        subst (λ k. MakeCalls file (take (i + 1) commands) (take k c.match-call-of.calls)) (sym w.n-is)
+        subst (λ k. MakeCalls file (take (i + 1) commands) (take k c.match-call_of.calls)) (sym w.n-is)
             (subst (λ xs. MakeCalls file (take (i + 1) commands) (take (n + 1) xs)) (sym w.calls-is)
             (make_call_more file commands c.loop-command.calls i n w.in-Some.call _ low place c.loop-command.invariant.1 w.in-Some.ensures)),
       )
-      | in-default w ↦ (
+      | in_default w ↦ (
         omega (arith, w.n-is, c.loop-command.invariant.0),
-        subst (λ k. MakeCalls file (take (i + 1) commands) (take k c.match-call-of.calls)) (sym w.n-is)
+        subst (λ k. MakeCalls file (take (i + 1) commands) (take k c.match-call_of.calls)) (sym w.n-is)
             (subst (λ xs. MakeCalls file (take (i + 1) commands) (take n xs)) (sym w.calls-is)
-            (make_none_more file commands c.loop-command.calls i n _ low c.loop-command.invariant.1 w.in-default.ensures)),
+            (make_none_more file commands c.loop-command.calls i n _ low c.loop-command.invariant.1 w.in_default.ensures)),
       )
     ]
 

@@ -3,7 +3,7 @@ use Rattle.std.proofs.lemmas.List.{take_all}
 use Rattle.session.specs.Session.{line_of, command_lines}
 use Rattle.session.proofs.Making.{calls_counted, calls_kept, lines_more}
 use Rattle.session.proofs.answers.write_lines.Goals as goal
-use Rattle.session.proofs.answers.write_lines.Goals.{then-makes-call, else-makes-call}
+use Rattle.session.proofs.answers.write_lines.Goals.{then-makes_call, else-makes_call}
 
 pub loop-i-preserved : goal.loop-i-preserved
 loop-i-preserved c =
@@ -12,17 +12,17 @@ loop-i-preserved c =
     let k = c.loop-i.k in
     let low : i < length commands = c.loop-i-test.true in
     let place : c.args.at + i < length c.loop-i.lines = omega (arith, low, c.requires, c.loop-i.auto.lines) in
-    let written = lines_more commands c.args.answers.now c.args.lines.now c.loop-i.lines c.args.at i k _ c.command-line.result low place
-    c.loop-i.invariant.0 (c.command-line.ensures ∙ ap (line_of _) c.answer-at.ensures) c.loop-i.invariant.2 in
-    elim c.if-makes-call.branch [
-      | then-makes-call w ↦ (
-        w.k_is ∙ calls_counted commands i k _ low c.loop-i.invariant.0 w.if-makes-call.ensures,
-        omega (arith, w.k_is, c.loop-i.invariant.1),
+    let written = lines_more commands c.args.answers.now c.args.lines.now c.loop-i.lines c.args.at i k _ c.command_line.result low place
+    c.loop-i.invariant.0 (c.command_line.ensures ∙ ap (line_of _) c.answer_at.ensures) c.loop-i.invariant.2 in
+    elim c.if-makes_call.branch [
+      | then-makes_call w ↦ (
+        w.k-is ∙ calls_counted commands i k _ low c.loop-i.invariant.0 w.if-makes_call.ensures,
+        omega (arith, w.k-is, c.loop-i.invariant.1),
         written,
       )
-      | else-makes-call w ↦ (
-        w.k_is ∙ calls_kept commands i k _ low c.loop-i.invariant.0 w.if-makes-call.ensures,
-        omega (arith, w.k_is, c.loop-i.invariant.1),
+      | else-makes_call w ↦ (
+        w.k-is ∙ calls_kept commands i k _ low c.loop-i.invariant.0 w.if-makes_call.ensures,
+        omega (arith, w.k-is, c.loop-i.invariant.1),
         written,
       )
     ]

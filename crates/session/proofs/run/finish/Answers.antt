@@ -33,8 +33,8 @@ returns-in-Alone c =
       within = omega arith;
       rest =
           rest_open (ghosts.meaning c.args.drawing) c.args.table.now c.args.gauge.now c.args.pairs.now c.args.commands.now c.args.lines.now (omega arith)
-          c.in-Alone.answer c.success.result _ c.answer-commands.new.answers c.write-lines.new.lines o.0 o.1 last-is (ap succeeds c.success.ensures)
-          (o.3 ∙ alone_plan c.args.table.now c.args.gauge.now o.2) c.answer-commands.ensures c.write-lines.ensures;
+          c.in-Alone.answer c.success.result _ c.answer_commands.new.answers c.write_lines.new.lines o.0 o.1 last-is (ap succeeds c.success.ensures)
+          (o.3 ∙ alone_plan c.args.table.now c.args.gauge.now o.2) c.answer_commands.ensures c.write_lines.ensures;
     }
 
 pub returns-in-Both : goal.returns-in-Both
@@ -44,6 +44,6 @@ returns-in-Both c =
       within = omega arith;
       rest =
           rest_open (ghosts.meaning c.args.drawing) c.args.table.now c.args.gauge.now c.args.pairs.now c.args.commands.now c.args.lines.now (omega arith)
-          c.in-Both.answer c.in-Both.last _ c.answer-commands-in-Both.new.answers c.write-lines-in-Both.new.lines o.0 o.1 o.2 o.3
-          (o.5 ∙ both_plan c.args.table.now c.args.gauge.now o.4) c.answer-commands-in-Both.ensures c.write-lines-in-Both.ensures;
+          c.in-Both.answer c.in-Both.last _ c.answer_commands-in-Both.new.answers c.write_lines-in-Both.new.lines o.0 o.1 o.2 o.3
+          (o.5 ∙ both_plan c.args.table.now c.args.gauge.now o.4) c.answer_commands-in-Both.ensures c.write_lines-in-Both.ensures;
     }

@@ -11,31 +11,31 @@ use Rattle.session.proofs.run.session.Goals as goal
 
 pub finish-requires : goal.finish-requires
 finish-requires c =
-    let is = c.first-commands.ensures ∙ c.in-ok-count.ensures.commands_read in
+    let is = c.first_commands.ensures ∙ c.in_ok-count.ensures.commands_read in
     let few = ap length is in
     let most = commands_few c.args.input.now in (
       omega (arith, few, most),
       (
         omega (arith, few, most),
-        omega (arith, few, most, length-set c.args.lines.now 0 (line 68 c.opening-answer.result)),
+        omega (arith, few, most, length-set c.args.lines.now 0 (line 68 c.opening_answer.result)),
       ),
     )
 
 pub returns-in-Ok : goal.returns-in-Ok
 returns-in-Ok c =
     let lines = c.args.lines.now in
-    let is = c.first-commands.ensures ∙ c.in-ok-count.ensures.commands_read in
+    let is = c.first_commands.ensures ∙ c.in_ok-count.ensures.commands_read in
     let few = ap length is in
     let most = commands_few c.args.input.now in
-    let answer = c.opening-answer.result in
-    let answer_is : answer ≡ drawing_answer c.args.drawing.now = c.opening-answer.ensures ∙ c.open-opening.ensures.numbers in
-    let opened : succeeds answer ≡ true = ap succeeds (c.opening-answer.ensures ∙ ap (opening_numbers ghosts.meaning) c.in-Ok.is) in
+    let answer = c.opening_answer.result in
+    let answer_is : answer ≡ drawing_answer c.args.drawing.now = c.opening_answer.ensures ∙ c.open-opening.ensures.numbers in
+    let opened : succeeds answer ≡ true = ap succeeds (c.opening_answer.ensures ∙ ap (opening_numbers ghosts.meaning) c.in-Ok.is) in
     record {
       enough = room_there (length c.args.input.now) (length c.args.commands.now) (length c.args.calls.now) (length c.args.answers.now) (length c.args.lines.now) (omega arith) (omega arith) (omega arith) (omega arith);
       within = omega (arith, c.finish.ensures.within, few, most, c.finish.auto.lines, length-set lines 0 (line 68 answer));
       prints =
           print_rest c.args.drawing.now c.args.table.now c.args.gauge.now c.args.pairs.now c.args.input.now lines (omega arith) answer answer_is
-          (ghosts.meaning c.in-Ok.drawing) c.first-commands.result.now _ opened
+          (ghosts.meaning c.in-Ok.drawing) c.first_commands.result.now _ opened
           (IfOk-at_ok (λ d. ghosts.meaning d ≡ drawing_plan c.args.drawing.now) c.in-Ok.is c.open-opening.ensures.plan)
           is c.finish.ensures.rest;
     }
@@ -43,10 +43,10 @@ returns-in-Ok c =
 pub returns-in-Err : goal.returns-in-Err
 returns-in-Err c =
     let lines = c.args.lines.now in
-    let answer = c.opening-answer.result in
-    let answer_is : answer ≡ drawing_answer c.args.drawing.now = c.opening-answer.ensures ∙ c.open-opening.ensures.numbers in
+    let answer = c.opening_answer.result in
+    let answer_is : answer ≡ drawing_answer c.args.drawing.now = c.opening_answer.ensures ∙ c.open-opening.ensures.numbers in
     let refused : succeeds answer ≡ false =
-    ap succeeds (c.opening-answer.ensures ∙ ap (opening_numbers ghosts.meaning) c.in-Err.is) ∙ refused_fails c.in-Err.field-0 in
+    ap succeeds (c.opening_answer.ensures ∙ ap (opening_numbers ghosts.meaning) c.in-Err.is) ∙ refused_fails c.in-Err.field-0 in
     record {
       enough = room_there (length c.args.input.now) (length c.args.commands.now) (length c.args.calls.now) (length c.args.answers.now) (length c.args.lines.now) (omega arith) (omega arith) (omega arith) (omega arith);
       within = omega (arith, length-set lines 0 (line 68 answer));

@@ -8,8 +8,8 @@ pub returns : goal.returns
 returns g c =
     let m = g.P.Plan.meaning c.args.plan in
     record {
-      same-plan = refl;
-      finds = c.find-fault-finding.ensures;
+      same_plan = refl;
+      finds = c.find_fault-finding.ensures;
       only = one_finding m;
-      closes = λ sound. keeps_closing m (g.met.P.Plan.lawful c.args.plan) (subst (Finds m) sound c.find-fault-finding.ensures);
+      closes = λ sound. keeps_closing m (g.met.P.Plan.lawful c.args.plan) (subst (Finds m) sound c.find_fault-finding.ensures);
     }

@@ -19,35 +19,38 @@ passed :
     → StepsRead b (steps_in b) steps → Passes (drawing_questions b)
 passed b h rows steps header states read = record { header = header.passes; rows_pass = states.proper_rows; steps_pass = read.right_steps }
 
-pub returns-in-err-steps : goal.returns-in-err-steps
-returns-in-err-steps c =
+pub returns-in_err-steps : goal.returns-in_err-steps
+returns-in_err-steps c =
     let b = c.args.bytes.now in
-    let p = err_from_is_err_and c.from-residual-in-err-steps.result c.from-residual-in-err-steps.ensures.1 in
-    let low = c.in-err-steps.ensures in
+    let p = err_from_is_err_and c.from_residual-in_err-steps.result c.from_residual-in_err-steps.ensures.1 in
+    let low = c.in_err-steps.ensures in
     rw (p.1, p.2)
     (record {
       numbers =
           ap refusal_numbers low.1
-          ∙ sym (refused_step (drawing_questions b) c.in-ok-header.ensures.passes c.in-ok-rows.ensures.proper_rows low.0 low.2);
+          ∙ sym (refused_step (drawing_questions b) c.in_ok-header.ensures.passes c.in_ok-rows.ensures.proper_rows low.0 low.2);
       plan = tt;
     })
 
-pub invariant-of-result : goal.invariant-of-result
-invariant-of-result c =
+pub invariant_of-result : goal.invariant_of-result
+invariant_of-result c =
     let b = c.args.bytes.now in
-    let header = c.in-ok-header.ensures in
-    let states = c.in-ok-rows.ensures in
-    let read = c.in-ok-steps.ensures in
-    let is = stored_is b _ _ _ c.in-ok-rows.rows c.in-ok-steps.steps header.states_read header.start_read header.channels_read states read in
-    (∣ subst Lawful (sym is) (drawing_lawful b (passed b _ _ _ header states read)) ∣₁, (λ s. omega (arith, read.ends_by s, read.long_targets, header.few_steps, header.steps_read), tt))
+    let header = c.in_ok-header.ensures in
+    let states = c.in_ok-rows.ensures in
+    let read = c.in_ok-steps.ensures in
+    let is = stored_is b _ _ _ c.in_ok-rows.rows c.in_ok-steps.steps header.states_read header.start_read header.channels_read states read in
+    record {
+      lawful = ∣ subst Lawful (sym is) (drawing_lawful b (passed b _ _ _ header states read)) ∣₁;
+      spans_fit = λ s. omega (arith, read.ends_by s, read.long_targets, header.few_steps, header.steps_read);
+    }
 
 pub returns : goal.returns
 returns c =
     let b = c.args.bytes.now in
-    let header = c.in-ok-header.ensures in
-    let states = c.in-ok-rows.ensures in
-    let read = c.in-ok-steps.ensures in
-    let is = stored_is b _ _ _ c.in-ok-rows.rows c.in-ok-steps.steps header.states_read header.start_read header.channels_read states read in
+    let header = c.in_ok-header.ensures in
+    let states = c.in_ok-rows.ensures in
+    let read = c.in_ok-steps.ensures in
+    let is = stored_is b _ _ _ c.in_ok-rows.rows c.in_ok-steps.steps header.states_read header.start_read header.channels_read states read in
     record {
       numbers =
           ap (λ m. success m.states m.channels) is

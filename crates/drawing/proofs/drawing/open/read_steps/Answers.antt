@@ -19,7 +19,7 @@ loop-i-preserved c =
     let targets : set t.targets i (to_in b i) ≡ c.add.new.self.targets =
     sym (c.add.ensures.targets ∙ ap (set t.targets i) row.to_read) in
     subst (StepsRead b (i + 1)) (λ j. record { spans = spans j; targets = targets j })
-    (steps_more b i t c.loop-i.invariant (omega arith) (sym c.if-leads-astray.ensures) (omega arith))
+    (steps_more b i t c.loop-i.invariant (omega arith) (sym c.if-leads_astray.ensures) (omega arith))
 
 pub returns : goal.returns
 returns c =

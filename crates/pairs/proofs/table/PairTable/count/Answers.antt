@@ -8,14 +8,14 @@ use Rattle.pairs.proofs.table.PairTable.count.Goals as goal
 pub loop-first-init : goal.loop-first-init
 loop-first-init c = sym (ap length (pairs_none (kept_pairs c.args.self.now)))
 
-pub overflow-add-n : goal.overflow-add-n
-overflow-add-n c =
-    let few : c.row-count-n.result ≤ 128 = subst (λ (m : ℕ). m ≤ 128) (sym c.row-count-n.ensures) (partners_length _ _ 128) in
+pub overflow_add-n : goal.overflow_add-n
+overflow_add-n c =
+    let few : c.row_count-n.result ≤ 128 = subst (λ (m : ℕ). m ≤ 128) (sym c.row_count-n.ensures) (partners_length _ _ 128) in
     record { fits = omega (arith, c.loop-first.invariant, pairs_length (kept_pairs c.args.self.now) c.loop-first.first) }
 
 pub loop-first-preserved : goal.loop-first-preserved
 loop-first-preserved c =
-    length_more (kept_pairs c.args.self.now) c.loop-first.first c.loop-first.n c.row-count-n.result c.loop-first.invariant c.row-count-n.ensures
+    length_more (kept_pairs c.args.self.now) c.loop-first.first c.loop-first.n c.row_count-n.result c.loop-first.invariant c.row_count-n.ensures
 
 pub returns : goal.returns
 returns c =

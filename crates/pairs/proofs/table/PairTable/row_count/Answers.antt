@@ -7,8 +7,8 @@ use Rattle.pairs.proofs.table.PairTable.row_count.Goals.{then-stands, else-stand
 pub loop-second-init : goal.loop-second-init
 loop-second-init c = sym (ap length (partners_none (kept_pairs c.args.self.now) c.args.first))
 
-pub overflow-add-n : goal.overflow-add-n
-overflow-add-n c = record { fits = omega (arith, c.loop-second.invariant, partners_length (kept_pairs c.args.self.now) c.args.first c.loop-second.second) }
+pub overflow_add-n : goal.overflow_add-n
+overflow_add-n c = record { fits = omega (arith, c.loop-second.invariant, partners_length (kept_pairs c.args.self.now) c.args.first c.loop-second.second) }
 
 pub loop-second-preserved : goal.loop-second-preserved
 loop-second-preserved c =

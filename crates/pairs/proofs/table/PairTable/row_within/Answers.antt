@@ -4,5 +4,5 @@ use Rattle.pairs.proofs.table.PairTable.row_within.Goals as goal
 
 pub returns-then-i-ge-STATES : goal.returns-then-i-ge-STATES
 returns-then-i-ge-STATES c =
-    behind_within c.args.self.now c.args.other.now c.args.i c.args.j c.row-count.result c.row-count.ensures
+    behind_within c.args.self.now c.args.other.now c.args.i c.args.j c.row_count.result c.row_count.ensures
     (⊎_elim inl (λ both. inr both.1) c.then-i-ge-STATES.either)

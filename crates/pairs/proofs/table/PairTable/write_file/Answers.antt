@@ -5,11 +5,11 @@ use Rattle.pairs.proofs.Reading.{reads_back, kept_small}
 use Rattle.pairs.proofs.Wholes.{not_written, written}
 use Rattle.pairs.proofs.table.PairTable.write_file.Goals as goal
 
-pub overflow-mul-needed : goal.overflow-mul-needed
-overflow-mul-needed c = record { fits = omega (arith, c.count-count.ensures.count, count_length (kept_pairs c.args.self.now)) }
+pub overflow_mul-needed : goal.overflow_mul-needed
+overflow_mul-needed c = record { fits = omega (arith, c.count-count.ensures.count, count_length (kept_pairs c.args.self.now)) }
 
-pub overflow-add-needed : goal.overflow-add-needed
-overflow-add-needed c = record { fits = omega (arith, c.count-count.ensures.count, count_length (kept_pairs c.args.self.now)) }
+pub overflow_add-needed : goal.overflow_add-needed
+overflow_add-needed c = record { fits = omega (arith, c.count-count.ensures.count, count_length (kept_pairs c.args.self.now)) }
 
 pub returns-then-buffer-needed : goal.returns-then-buffer-needed
 returns-then-buffer-needed c =
@@ -18,14 +18,14 @@ returns-then-buffer-needed c =
       back = reads_back (kept_pairs c.args.self.now) (kept_small c.args.self.now);
     }
 
-pub write-header-requires : goal.write-header-requires
-write-header-requires c = (omega arith, omega (arith, c.count-count.ensures.count, count_length (kept_pairs c.args.self.now)))
+pub write_header-requires : goal.write_header-requires
+write_header-requires c = (omega arith, omega (arith, c.count-count.ensures.count, count_length (kept_pairs c.args.self.now)))
 
 pub returns : goal.returns
 returns c =
     record {
       written =
-          written (kept_pairs c.args.self.now) c.args.buffer.now c.write-header.new.buffer c.write-rows.new.buffer c.count-count.result c.write-rows.result
-          c.count-count.ensures.count (omega arith) c.write-header.ensures c.write-rows.ensures;
+          written (kept_pairs c.args.self.now) c.args.buffer.now c.write_header.new.buffer c.write_rows.new.buffer c.count-count.result c.write_rows.result
+          c.count-count.ensures.count (omega arith) c.write_header.ensures c.write_rows.ensures;
       back = reads_back (kept_pairs c.args.self.now) (kept_small c.args.self.now);
     }

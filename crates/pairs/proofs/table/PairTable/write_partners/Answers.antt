@@ -22,14 +22,14 @@ loop-second-init c = row_none (kept_pairs c.args.self.now) c.args.buffer.now c.a
 pub bounds-buffer-at : goal.bounds-buffer-at
 bounds-buffer-at c = omega (arith, room c)
 
-pub overflow-add-buffer : goal.overflow-add-buffer
-overflow-add-buffer c = let h = room c in search rules
+pub overflow_add-buffer : goal.overflow_add-buffer
+overflow_add-buffer c = let h = room c in search rules
 
 pub bounds-buffer-at-then-stands : goal.bounds-buffer-at-then-stands
 bounds-buffer-at-then-stands c = let h = room c in search rules
 
-pub overflow-add-at : goal.overflow-add-at
-overflow-add-at c = let h = room c in search rules
+pub overflow_add-at : goal.overflow_add-at
+overflow_add-at c = let h = room c in search rules
 
 pub loop-second-preserved : goal.loop-second-preserved
 loop-second-preserved c =

@@ -6,8 +6,8 @@ use Rattle.pairs.proofs.table.PairTable.write_rows.Goals as goal
 pub loop-first-init : goal.loop-first-init
 loop-first-init c = rows_none (kept_pairs c.args.self.now) c.args.buffer.now
 
-pub write-partners-at-requires : goal.write-partners-at-requires
-write-partners-at-requires c = (
+pub write_partners-at-requires : goal.write_partners-at-requires
+write_partners-at-requires c = (
   omega arith,
   omega (arith, c.loop-first.auto.buffer, rows_room (kept_pairs c.args.self.now) c.args.buffer.now c.loop-first.first c.loop-first.at c.loop-first.buffer c.requires c.loop-first.invariant (omega arith)),
 )
@@ -15,7 +15,7 @@ write-partners-at-requires c = (
 pub loop-first-preserved : goal.loop-first-preserved
 loop-first-preserved c =
     rows_more (kept_pairs c.args.self.now) c.args.buffer.now c.loop-first.first c.loop-first.at c.loop-first.buffer c.requires c.loop-first.invariant
-    c.write-partners-at.new.buffer c.write-partners-at.result c.write-partners-at.ensures
+    c.write_partners-at.new.buffer c.write_partners-at.result c.write_partners-at.ensures
 
 pub returns : goal.returns
 returns c =
