@@ -1,5 +1,5 @@
 -- A table is filled row by row with just the pairs that have a property.
-use Rattle.std.proofs.Common.{◌≡◌, ℕ, ◌+◌, ◌*◌, ◌<◌, ◌≤◌, Bool, true, false, cond, ◌||◌, eqb, ltb, ◌≢◌, ◌⊎◌, get_or, Decides, sym, refl, ap, ◌∙◌, subst, inl, inr, ⊎_elim, arith}
+use Rattle.std.proofs.Common.{◌≡◌, ℕ, ◌+◌, ◌*◌, ◌<◌, true, false, cond, ◌||◌, eqb, ltb, ◌≢◌, ◌⊎◌, get_or, Decides, sym, refl, ap, ◌∙◌, subst, inl, inr, ⊎_elim, arith}
 use Rattle.std.proofs.lemmas.Bool.{cases_eq, or_cases, or_left, or_right, and_parts, and_from, eqb-true, eq-eqb, ltb-true, lt-ltb, both_ways}
 use Rattle.pairs.specs.Pairs.{Pairs, Has, no_pairs, is_pair, with_pair, fits_table, kept_pairs}
 use Rattle.pairs.specs.declared.table.PairTable.{PairTable}

@@ -1,13 +1,12 @@
 -- What a change of one pair keeps true.
-use Rattle.std.proofs.Common.{◌≡◌, ℕ, ◌<◌, ◌≤◌, Bool, true, false, cond, not, ◌&&◌, ◌||◌, eqb, ltb, ◌⊎◌, Some, None, Ok, Err, Option, sym, refl, ap, ◌∙◌, subst, inl, inr, ⊎_elim, arith}
-use Rattle.std.proofs.lemmas.Bool.{cases_Bool, and_parts, or_cases, ltb-true, lt-ltb, eqb-true, both_ways, and_from}
-use Rattle.plan.specs.Model.{Lawful}
+use Rattle.std.proofs.Common.{◌≡◌, ℕ, ◌<◌, ◌≤◌, Bool, true, false, cond, not, eqb, ltb, Some, None, Ok, sym, refl, ap, ◌∙◌, subst, ⊎_elim, arith}
+use Rattle.std.proofs.lemmas.Bool.{and_parts, or_cases, ltb-true, lt-ltb, eqb-true, both_ways, and_from}
 use Rattle.plan.specs.Runs.{Marked}
 use Rattle.pairs.specs.Pairs.{Pairs, no_pairs, is_pair, with_pair, without_pair, fits_table}
 use Rattle.comparison.specs.declared.refusal.PairRefusal.{PairRefusal}
 use Rattle.comparison.specs.declared.refusal.PairRefusal.TheVariants.{NoState, Unmarked}
 use Rattle.comparison.specs.declared.refusal.Side.TheVariants.{First, Second}
-use Rattle.comparison.specs.Settings.{Setting, OnlyMarked, Consistent}
+use Rattle.comparison.specs.Settings.{Setting, OnlyMarked}
 use Rattle.comparison.specs.Calls.{pair_refused, or_refused, change_result, unless_refused, after_add, after_strike}
 
 -- a pair that is not refused: both states exist and are marked

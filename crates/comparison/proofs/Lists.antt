@@ -1,5 +1,5 @@
 -- Lists of calls: one call after the other, and why there is only one history.
-use Rattle.std.proofs.Common.{◌≡◌, ℕ, zero, suc, ◌+◌, ◌<◌, ◌≤◌, Bool, true, false, cond, ltb, ◌≢◌, ◌⊎◌, List, length, get_or, drop, set, sym, refl, ap, ◌∙◌, subst, inl, inr, ⊎_elim, add-one, arith}
+use Rattle.std.proofs.Common.{◌≡◌, ℕ, zero, suc, ◌+◌, ◌<◌, ◌≤◌, cond, ltb, ◌≢◌, List, length, get_or, drop, set, sym, refl, ap, ◌∙◌, subst, ⊎_elim, add-one, arith}
 use Rattle.std.proofs.lemmas.List.{length-set, get_or-set_same, get_or-set_other, drop-set-lt, drop-drop}
 use Rattle.std.proofs.lemmas.Bool.{cases_eq, lt-ltb, le-ltb}
 use Rattle.plan.specs.declared.answer.Answer.{Answer}
@@ -10,7 +10,7 @@ use Rattle.comparison.specs.declared.Comparison.{Comparison}
 use Rattle.comparison.specs.declared.calls.Call.{Call}
 use Rattle.comparison.specs.declared.calls.Call.TheVariants.{Add, Strike, Load}
 use Rattle.comparison.specs.Settings.{Setting, setting_of, SameSetting}
-use Rattle.comparison.specs.Histories.{Does, no_call, no_answer, History, HasHistory, OneHistory, Ran, Running}
+use Rattle.comparison.specs.Histories.{Does, no_call, no_answer, History, OneHistory, Ran, Running}
 
 -- the setting stays where plans, findings and rule do
 pub setting_stays : {A B R : Type 0} (a : A → Model) (b : B → Model) (says : R → Says) (c d : Comparison A B R) → SameSetting c d

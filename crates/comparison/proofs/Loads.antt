@@ -1,21 +1,21 @@
 -- Loading a pair file, row by row.
-use Rattle.std.proofs.Common.{◌≡◌, ℕ, zero, suc, ◌+◌, ◌*◌, ◌<◌, ◌≤◌, Bool, true, false, cond, ◌&&◌, ◌||◌, eqb, ltb, ◌⊎◌, List, is_some, Some, None, Option, sym, refl, ap, ◌∙◌, subst, inl, inr, ⊎_elim, add-one, arith}
+use Rattle.std.proofs.Common.{◌≡◌, ℕ, zero, suc, ◌+◌, ◌*◌, ◌<◌, ◌≤◌, true, false, cond, eqb, ltb, List, is_some, Some, None, sym, refl, ap, ◌∙◌, subst, ⊎_elim, add-one, arith}
 use Rattle.std.proofs.lemmas.Bool.{lt-ltb, or_cases, and_parts, eqb-true, both_ways}
 use Rattle.plan.specs.Answers.{success}
 use Rattle.plan.specs.Runs.{Marked}
 use Rattle.layout.specs.Bytes.{byte_at}
-use Rattle.layout.specs.Lowest.{lowest, Lowest}
+use Rattle.layout.specs.Lowest.{lowest}
 use Rattle.layout.proofs.LowestOf.{lowest_is, lowest_none}
 use Rattle.pairs.specs.declared.header.PairHeader.{PairHeader}
 use Rattle.pairs.specs.Pairs.{Pairs, is_pair, with_pair, fits_table}
-use Rattle.pairs.specs.PairFile.{HeaderOf, count_in, first_in, second_in, rows_in, rows_up_to, pairs_in, file_asked}
+use Rattle.pairs.specs.PairFile.{HeaderOf, count_in, first_in, second_in, rows_up_to, pairs_in}
 use Rattle.pairs.proofs.Files.{asked_on}
 use Rattle.comparison.specs.declared.refusal.PairRefusal.{PairRefusal}
 use Rattle.comparison.specs.declared.refusal.PairRefusal.TheVariants.{NoState, Unmarked}
 use Rattle.comparison.specs.Settings.{Setting, OnlyMarked}
 use Rattle.comparison.specs.Calls.{row_refused, rows_asked, row_numbers, pair_numbers, load_answer, after_load}
 use Rattle.comparison.specs.Loading.{RowsAllowed, LowestRefusedRow, RowsFit}
-use Rattle.comparison.proofs.Changes.{Allowed, allowed, allowed_fits}
+use Rattle.comparison.proofs.Changes.{allowed, allowed_fits}
 
 -- what a header gives as row i is row i of the file
 pub row_is : (b : List ℕ) (h : PairHeader) (i : ℕ) (row : ℕ × ℕ) → HeaderOf b h → i < h.count

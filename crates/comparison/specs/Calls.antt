@@ -1,8 +1,7 @@
 -- What each call answers, and which pairs stand after it, from the setting and the pairs that stood before.
-use Rattle.std.specs.Prelude.{◌≡◌, ℕ, Bool, true, false, cond, List, is_some, Some, None, Ok, Err, Option, Result, ◌==◌, nat_lt}
+use Rattle.std.specs.Prelude.{ℕ, Bool, cond, List, is_some, Some, None, Ok, Err, Option, Result, ◌==◌, nat_lt}
 use Rattle.plan.specs.declared.answer.Answer.{Answer}
 use Rattle.plan.specs.Answers.{numbers, success}
-use Rattle.plan.specs.Model.{Model}
 use Rattle.layout.specs.Lowest.{lowest}
 use Rattle.layout.specs.Refusals.{refusal_numbers}
 use Rattle.pairs.specs.Pairs.{Pairs, with_pair, without_pair}

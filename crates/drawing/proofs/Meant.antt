@@ -1,16 +1,16 @@
 -- The plan that is kept is the one that the file's layout describes, and it is lawful.
-use Rattle.std.proofs.Common.{◌≡◌, ℕ, zero, suc, ◌+◌, ◌-◌, ◌<◌, ◌≤◌, Bool, true, false, cond, not, ◌&&◌, ◌||◌, eqb, ltb, leb, ◌⊎◌, List, [], ◌∷◌, ◌++◌, length, get_or, sym, refl, ap, ◌∙◌, subst, inl, inr, ⊎_elim, append-nil, arith}
+use Rattle.std.proofs.Common.{◌≡◌, ℕ, zero, suc, ◌-◌, ◌<◌, ◌≤◌, Bool, true, false, cond, ◌&&◌, eqb, ltb, leb, List, [], ◌∷◌, ◌++◌, sym, refl, ap, ◌∙◌, subst, ⊎_elim, append-nil, arith}
 use Rattle.std.specs.List.{AllByRecursion as All}
 use Rattle.std.proofs.ByRecursion.{All-get_or, All-push, All-weaker}
-use Rattle.std.proofs.lemmas.Bool.{and_parts, or_cases, cases_Bool, both_ways, not-false, leb-true, ltb-true, le-ltb, eqb-true, ne_eqb, eqb-false}
+use Rattle.std.proofs.lemmas.Bool.{and_parts, or_cases, cases_Bool, both_ways, not-false, leb-true, ltb-true, le-ltb, eqb-true}
 use Rattle.std.proofs.lemmas.Bool.Decides.{nat_tests, Decides-below_and, Decides-eqb}
-use Rattle.plan.specs.Model.{Model, Lawful, Distinct}
+use Rattle.plan.specs.Model.{Lawful, Distinct}
 use Rattle.plan.proofs.Laws.{same_model}
 use Rattle.plan.proofs.Lists.{distinct_none, distinct_push}
 use Rattle.layout.specs.Questions.{Passes, StepsPass}
 use Rattle.drawing.specs.declared.state.State.{State}
 use Rattle.drawing.specs.declared.steps.StepTable.{StepTable}
-use Rattle.drawing.specs.Layout.{states_in, steps_in, channels_in, start_in, state_place, mark_at, code_at, silent_at, proper_at, from_in, to_in, before, astray_in, steps_from, drawing_plan, drawing_questions}
+use Rattle.drawing.specs.Layout.{states_in, steps_in, channels_in, start_in, state_place, mark_at, code_at, silent_at, proper_at, from_in, to_in, before, steps_from, drawing_plan, drawing_questions}
 use Rattle.drawing.specs.Stored.{stored_plan}
 use Rattle.drawing.specs.Opening.{StatesRead, StepsRead}
 use Rattle.drawing.proofs.StepRows.{Right, right_from}

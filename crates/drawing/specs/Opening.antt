@@ -1,5 +1,5 @@
 -- What the parts of opening a drawing file give, each from the bytes of the file.
-use Rattle.std.specs.Prelude.{◌≡◌, ℕ, ◌+◌, ◌-◌, ◌<◌, ◌≤◌, Bool, true, false, cond, ◌&&◌, List, length, ◌==◌, nat_lt, slice_index, slice_index_or}
+use Rattle.std.specs.Prelude.{◌≡◌, ℕ, ◌+◌, ◌-◌, ◌<◌, ◌≤◌, true, cond, ◌&&◌, List, length, ◌==◌, nat_lt, slice_index, slice_index_or}
 use Rattle.layout.specs.Questions.{HeaderPasses, RowsPass, StepsPass}
 use Rattle.layout.specs.Refusals.{refusal_numbers}
 use Rattle.layout.specs.declared.refusal.FileRefusal.{FileRefusal}

@@ -1,5 +1,5 @@
 -- What a drawing keeps of its rows, and the plan that this stands for.
-use Rattle.std.specs.Prelude.{ℕ, ◌+◌, ◌≤◌, Bool, false, cond, List, [], ◌∷◌, length, get_or, take, drop, ◌==◌, slice_index, slice_index_or}
+use Rattle.std.specs.Prelude.{ℕ, ◌+◌, ◌≤◌, false, cond, List, [], ◌∷◌, length, get_or, take, drop, ◌==◌, slice_index, slice_index_or}
 use Rattle.plan.specs.Model.{Model}
 use Rattle.drawing.specs.declared.state.State.{State}
 use Rattle.drawing.specs.declared.steps.Span.{Span}

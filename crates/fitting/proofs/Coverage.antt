@@ -1,14 +1,14 @@
 -- What the tables say of covered closings, pair by pair, side by side.
-use Rattle.std.proofs.Common.{◌≡◌, ℕ, zero, suc, ◌+◌, ◌<◌, ◌≤◌, Bool, true, false, not, ◌&&◌, ◌≢◌, ◌⊎◌, Decides, sym, refl, ap, ◌∙◌, subst, inl, inr, ⊎_elim, arith}
+use Rattle.std.proofs.Common.{◌≡◌, ℕ, zero, suc, ◌+◌, ◌<◌, ◌≤◌, true, false, not, ◌&&◌, ◌≢◌, Decides, subst, ⊎_elim, arith}
 use Rattle.std.proofs.lemmas.Bool.{cases_Bool, cases_eq, and_parts, and_from, not-true, not_from_false, both_ways}
 use Rattle.plan.specs.declared.answer.Side.{Side}
 use Rattle.plan.specs.declared.answer.Side.TheVariants.{First, Second}
 use Rattle.plan.specs.Model.{Model, Lawful}
 use Rattle.plan.specs.Runs.{Marked, NextClosing}
 use Rattle.vet.specs.Findings.{LowestSuch}
-use Rattle.pairs.specs.Pairs.{Has, Pairs, kept_pairs}
+use Rattle.pairs.specs.Pairs.{Has, Pairs}
 use Rattle.fitting.specs.declared.covering.Covering.{Covering}
-use Rattle.fitting.specs.Bisimilarity.{Matched, AllCovered}
+use Rattle.fitting.specs.Bisimilarity.{Matched}
 use Rattle.fitting.specs.Judging.{IsUncovered, SomeUncovered, FirstAt}
 use Rattle.closings.specs.Tables.{Tabulates, Follows, CoveredBy, exchanged}
 use Rattle.fitting.specs.Covering.{Covers, uncovered_in, side_at, SidesCovered, ClosingsCovered}

@@ -1,8 +1,7 @@
 -- A scan over the pairs of a set in ascending order: all have a property, or the first that has not is found.
-use Rattle.std.proofs.Common.{◌≡◌, ℕ, ◌+◌, ◌<◌, ◌≤◌, ◌≢◌, ◌⊎◌, sym, subst, inl, inr, ⊎_elim, arith}
+use Rattle.std.proofs.Common.{◌≡◌, ℕ, ◌+◌, ◌<◌, ◌≢◌, sym, subst, ⊎_elim, arith}
 use Rattle.std.proofs.lemmas.Bool.{cases_eq}
 use Rattle.pairs.specs.Pairs.{Has, Pairs}
-use Rattle.pairs.specs.Listing.{Earlier}
 use Rattle.fitting.specs.Judging.{FirstSuch}
 use Rattle.fitting.specs.Covering.{AllBelow, RowBelow}
 

@@ -1,13 +1,11 @@
 -- Only one verdict is possible, and it is acceptance just where both plans are sound and the pairs fit.
-use Rattle.std.proofs.Common.{◌≡◌, ℕ, ◌<◌, Bool, true, false, ◌⊎◌, is_ok, Some, Ok, Err, Decides, Result, sym, refl, ap, ◌∙◌, subst, inl, inr, ⊎_elim, arith}
+use Rattle.std.proofs.Common.{◌≡◌, ℕ, ◌<◌, true, ◌⊎◌, is_ok, Some, Ok, Err, Decides, Result, sym, refl, ap, ◌∙◌, subst, inl, inr, ⊎_elim, arith}
 use Rattle.std.proofs.lemmas.Bool.{cases_order, both_ways}
 use Rattle.plan.specs.declared.answer.Side.{Side}
 use Rattle.plan.specs.declared.answer.Side.TheVariants.{First, Second}
 use Rattle.plan.specs.Model.{Model, Lawful}
 use Rattle.plan.specs.Runs.{Sound}
 use Rattle.plan.proofs.Closings.{keeps_closing}
-use Rattle.vet.specs.declared.finding.Finding.{Finding}
-use Rattle.vet.specs.Findings.{Finds, LowestSuch}
 use Rattle.vet.proofs.Faults.{one_finding, same_lowest}
 use Rattle.rules.specs.Rules.{Says, Acceptable, LowestRefused, RefusedOn}
 use Rattle.pairs.specs.Pairs.{Has, Pairs}
@@ -16,8 +14,8 @@ use Rattle.fitting.specs.declared.misfit.Incomparable.{Incomparable}
 use Rattle.fitting.specs.declared.misfit.Incomparable.TheVariants.{Unsound, Channels}
 use Rattle.fitting.specs.declared.misfit.Misfit.{Misfit}
 use Rattle.fitting.specs.declared.misfit.Misfit.TheVariants.{Plans, StartsApart, Unacceptable, Uncovered}
-use Rattle.fitting.specs.Bisimilarity.{OnlyMarked, AllAcceptable, AllCovered, Fits, Agree}
-use Rattle.fitting.specs.Judging.{Asked, OnlyOne, NamesUnsound, PlansAsked, NamesUnacceptable, NamesUncovered, FirstSuch, FirstUnacceptable, IsUncovered, SomeUncovered, FirstAt, FirstUncovered, Judges, Accepted}
+use Rattle.fitting.specs.Bisimilarity.{OnlyMarked, AllAcceptable, AllCovered, Agree}
+use Rattle.fitting.specs.Judging.{Asked, OnlyOne, NamesUnsound, PlansAsked, NamesUnacceptable, NamesUncovered, FirstSuch, IsUncovered, SomeUncovered, FirstAt, Judges, Accepted}
 use Rattle.fitting.specs.Numbers.{verdict_numbers}
 use Rattle.fitting.proofs.Coverage.{matched_covered}
 use Rattle.fitting.proofs.Depths.{joined_bisimilar}

@@ -1,5 +1,5 @@
 -- The tables that judging works with.
-use Rattle.std.specs.Prelude.{◌≡◌, ℕ, ◌<◌, Bool, not, ◌&&◌, List, [], ◌∷◌, slice_index_or}
+use Rattle.std.specs.Prelude.{ℕ, ◌<◌, Bool, not, ◌&&◌, List, [], ◌∷◌, slice_index_or}
 use Rattle.plan.specs.declared.answer.Side.{Side}
 use Rattle.plan.specs.declared.answer.Side.TheVariants.{First, Second}
 use Rattle.plan.specs.Model.{Model}

@@ -1,5 +1,5 @@
 -- What judging a set of pairs answers: the questions in their order.
-use Rattle.std.specs.Prelude.{◌≡◌, ℕ, ◌<◌, ◌⊎◌, Some, Ok, Err, Result}
+use Rattle.std.specs.Prelude.{◌≡◌, ℕ, ◌⊎◌, Some, Ok, Err, Result}
 use Rattle.plan.specs.declared.answer.Side.{Side}
 use Rattle.plan.specs.declared.answer.Side.TheVariants.{First, Second}
 use Rattle.plan.specs.Model.{Model}

@@ -1,5 +1,5 @@
 -- What a search for the largest fitting set finds: the questions in their order.
-use Rattle.std.specs.Prelude.{◌≡◌, ℕ, Ok, Err, Result}
+use Rattle.std.specs.Prelude.{◌≡◌, Ok, Err, Result}
 use Rattle.plan.specs.declared.answer.Answer.{Answer}
 use Rattle.plan.specs.Answers.{refusal}
 use Rattle.plan.specs.Model.{Model}

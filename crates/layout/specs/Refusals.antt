@@ -1,5 +1,5 @@
 -- What each refusal of a plan file says in numbers, and what opening a file answers.
-use Rattle.std.specs.Prelude.{ℕ, Ok, Err, Result}
+use Rattle.std.specs.Prelude.{Ok, Err, Result}
 use Rattle.plan.specs.declared.answer.Answer.{Answer}
 use Rattle.plan.specs.Answers.{success, refusal, refusal_at}
 use Rattle.plan.specs.Model.{Model}

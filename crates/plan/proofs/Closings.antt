@@ -1,8 +1,8 @@
 -- In a sound plan records go on closing.
-use Rattle.std.proofs.Common.{◌≡◌, ℕ, zero, suc, ◌+◌, ◌-◌, ◌<◌, ◌≤◌, Bool, true, false, ◌⊎◌, List, [], length, get_or, sym, refl, ap, ◌∙◌, subst, inl, inr, ⊎_elim, add-one, arith}
+use Rattle.std.proofs.Common.{◌≡◌, ℕ, zero, suc, ◌+◌, ◌-◌, ◌<◌, ◌≤◌, true, false, ◌⊎◌, List, length, get_or, sym, ap, ◌∙◌, subst, inl, inr, ⊎_elim, add-one, arith}
 use Rattle.std.proofs.lemmas.Bool.{cases_Bool, cases_lt, both_ways}
 use Rattle.plan.specs.Model.{Model, Lawful}
-use Rattle.plan.specs.Runs.{Marked, Unmarked, Step, Run, Halts, Reaches, Leads, Between, Stuck, Circling, Sound, ClosesWithin128, HaltsAtClosing, KeepsClosing}
+use Rattle.plan.specs.Runs.{Marked, Unmarked, Step, Run, Reaches, Leads, Sound, KeepsClosing}
 use Rattle.plan.specs.Runs.Reaches.{at_once, onward}
 use Rattle.plan.specs.Runs.Leads.{by_step, through}
 use Rattle.plan.proofs.Pigeons.{pigeons_but, Twice}

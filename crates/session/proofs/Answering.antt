@@ -1,5 +1,5 @@
 -- The answers to the commands are those of a history.
-use Rattle.std.proofs.Common.{◌≡◌, ℕ, ◌≤◌, List, length, Ok, Err, Result, sym, refl, ap, ◌∙◌, subst, arith, MatchResult}
+use Rattle.std.proofs.Common.{◌≡◌, ℕ, ◌≤◌, List, length, Ok, Err, Result, ◌∙◌, arith, MatchResult}
 use Rattle.plan.specs.declared.answer.Answer.{Answer}
 use Rattle.plan.specs.Model.{Model}
 use Rattle.pairs.specs.Pairs.{Pairs, no_pairs}

@@ -1,5 +1,5 @@
 -- From commands to calls and lines, one command more at the end.
-use Rattle.std.proofs.Common.{◌≡◌, ℕ, suc, ◌+◌, ◌<◌, ◌≤◌, Bool, true, false, cond, ◌⊎◌, List, [], ◌∷◌, ◌++◌, length, get_or, take, drop, set, sym, refl, ap, ◌∙◌, subst, ⊎_elim, append_assoc, add-zero, zero-add, arith}
+use Rattle.std.proofs.Common.{◌≡◌, ℕ, ◌+◌, ◌<◌, Bool, true, false, cond, List, [], ◌∷◌, ◌++◌, length, get_or, take, drop, set, sym, refl, ap, ◌∙◌, subst, append_assoc, add-zero, zero-add, arith}
 use Rattle.std.proofs.lemmas.List.{get_or-drop, take_more, take_more_set}
 use Rattle.plan.specs.declared.answer.Answer.{Answer}
 use Rattle.comparison.specs.declared.calls.Call.{Call}

@@ -1,5 +1,5 @@
 -- The whole of what is printed.
-use Rattle.std.proofs.Common.{◌≡◌, ℕ, suc, ◌+◌, ◌<◌, ◌≤◌, Bool, true, false, cond, ◌&&◌, eqb, List, [], ◌∷◌, ◌++◌, map, length, take, set, MatchBool, sym, refl, ap, ◌∙◌, subst, arith}
+use Rattle.std.proofs.Common.{◌≡◌, ℕ, suc, ◌+◌, ◌<◌, ◌≤◌, Bool, true, false, cond, ◌&&◌, eqb, List, [], ◌∷◌, ◌++◌, length, take, set, MatchBool, sym, refl, ap, ◌∙◌, subst, arith}
 use Rattle.std.proofs.lemmas.List.{take_more_set, length-map}
 use Rattle.plan.specs.declared.answer.Answer.{Answer}
 use Rattle.plan.specs.Model.{Model}
@@ -7,12 +7,11 @@ use Rattle.layout.specs.Refusals.{refusal_numbers}
 use Rattle.layout.specs.declared.refusal.FileRefusal.{FileRefusal}
 use Rattle.layout.specs.declared.refusal.FileRefusal.TheVariants.{Length, Sign, Counts, Start, Parts, Row, Step}
 use Rattle.drawing.specs.Layout.{drawing_answer, drawing_plan}
-use Rattle.table.specs.Layout.{table_answer, table_plan}
 use Rattle.commands.specs.declared.command.Command.{Command}
 use Rattle.commands.specs.Lines.{lines_of, in_front}
 use Rattle.commands.specs.Commands.{command_of, commands_of}
 use Rattle.session.specs.declared.line.Line.{Line}
-use Rattle.session.specs.Session.{line, succeeds, gauge_answer, opens, opening_lines, second_plan, Answered, command_lines, Prints}
+use Rattle.session.specs.Session.{line, succeeds, opens, opening_lines, second_plan, Answered, command_lines, Prints}
 use Rattle.session.specs.Running.{table_lines, tables_open, AllPrinted, RestPrinted, has_room}
 use Rattle.std.proofs.lemmas.Bool.{and_from, le-leb}
 use Rattle.session.proofs.Rest.{shut_when}

@@ -1,10 +1,10 @@
 -- The plan that the kept rows stand for is the one that the file's layout describes, and it is lawful.
-use Rattle.std.proofs.Common.{◌≡◌, ℕ, ◌+◌, ◌<◌, ◌≤◌, Bool, true, false, cond, not, ◌&&◌, ◌||◌, eqb, ltb, leb, ◌⊎◌, List, [], ◌∷◌, length, get_or, sym, refl, ap, ◌∙◌, subst, inl, inr, ⊎_elim, arith}
+use Rattle.std.proofs.Common.{◌≡◌, ℕ, ◌+◌, ◌<◌, Bool, true, false, cond, not, ◌&&◌, ◌||◌, eqb, ltb, leb, List, [], ◌∷◌, sym, refl, ap, ◌∙◌, subst, ⊎_elim, arith}
 use Rattle.std.specs.List.{AllByRecursion as All}
 use Rattle.std.proofs.ByRecursion.{All-get_or}
-use Rattle.std.proofs.lemmas.Bool.{and_parts, or_parts, or_cases, cases_Bool, both_ways, not-false, leb-true, leb-false, ltb-true, ltb-false, le-ltb, eqb-true, eqb-false, ne_eqb}
+use Rattle.std.proofs.lemmas.Bool.{and_parts, or_parts, cases_Bool, both_ways, not-false, leb-true, leb-false, ltb-true, le-ltb, eqb-true, eqb-false, ne_eqb}
 use Rattle.std.proofs.lemmas.Bool.Decides.{nat_tests}
-use Rattle.plan.specs.Model.{Model, Lawful, Distinct}
+use Rattle.plan.specs.Model.{Lawful, Distinct}
 use Rattle.plan.proofs.Laws.{same_model}
 use Rattle.plan.proofs.Lists.{distinct_none, distinct_push}
 use Rattle.layout.specs.Bytes.{byte_at, long_at}

@@ -1,16 +1,14 @@
 -- One row after the other: what is kept of a file's rows, and the first row that is refused.
-use Rattle.std.proofs.Common.{◌≡◌, ℕ, ◌+◌, ◌*◌, ◌<◌, ◌≤◌, Bool, true, false, cond, not, ltb, ◌≢◌, ◌⊎◌, List, length, get_or, set, replicate, Some, None, Option, sym, refl, ap, ◌∙◌, subst, inl, inr, ⊎_elim, arith, below_more}
+use Rattle.std.proofs.Common.{◌≡◌, ℕ, ◌+◌, ◌<◌, ◌≤◌, Bool, true, false, cond, not, ltb, ◌≢◌, List, length, get_or, set, replicate, Some, None, sym, refl, ap, ◌∙◌, ⊎_elim, arith, below_more}
 use Rattle.std.proofs.lemmas.List.{get_or_past, get_or-replicate, length-replicate, length-set, get_or-set_same, get_or-set_other}
 use Rattle.std.proofs.lemmas.Bool.{cases_lt, cases_eq, le-ltb, lt-ltb}
 use Rattle.std.proofs.lemmas.Bool.Decides.{nat_tests}
-use Rattle.layout.specs.Lowest.{Lowest}
 use Rattle.layout.specs.Questions.{HeaderPasses, RowsPass}
-use Rattle.layout.specs.Refusals.{refusal_numbers}
 use Rattle.layout.specs.declared.refusal.FileRefusal.TheVariants.{Row as RowRefused}
 use Rattle.layout.proofs.Asked.{refused_row}
 use Rattle.table.specs.declared.row.Row.{Row}
-use Rattle.table.specs.Layout.{proper_at, row_place, states_in, table_questions, table_answer}
-use Rattle.table.specs.Rows.{Kept, blank, kept_row}
+use Rattle.table.specs.Layout.{proper_at, row_place, states_in, table_questions}
+use Rattle.table.specs.Rows.{blank, kept_row}
 use Rattle.table.specs.Opening.{RowsRead, Refused}
 
 -- what `Row::read` says of a row, by what it gave

@@ -1,8 +1,7 @@
 -- Question 7, put to the rows that were kept.
-use Rattle.std.proofs.Common.{◌≡◌, ℕ, ◌+◌, ◌<◌, Bool, true, false, cond, not, ◌||◌, eqb, ltb, List, get_or, sym, refl, ap, ◌∙◌, subst, lt_trans}
-use Rattle.std.proofs.lemmas.Bool.{and_parts, not-false, not-true, lt-ltb}
+use Rattle.std.proofs.Common.{◌≡◌, ℕ, ◌+◌, ◌<◌, true, cond, not, ◌||◌, List, get_or, sym, ap, ◌∙◌, lt_trans}
+use Rattle.std.proofs.lemmas.Bool.{and_parts, not-false, lt-ltb}
 use Rattle.layout.specs.Bytes.{byte_at}
-use Rattle.layout.specs.Lowest.{Lowest}
 use Rattle.layout.specs.Questions.{HeaderPasses, Passes}
 use Rattle.layout.specs.Refusals.{refusal_numbers}
 use Rattle.layout.specs.declared.refusal.FileRefusal.{FileRefusal}

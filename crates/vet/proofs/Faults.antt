@@ -1,14 +1,13 @@
 -- States between closings, and why only one finding is true.
-use Rattle.std.proofs.Common.{◌≡◌, ℕ, ◌<◌, ◌≤◌, Bool, true, false, not, ◌&&◌, ◌⊎◌, List, get_or, Decides, sym, refl, ap, ◌∙◌, subst, inl, inr, ⊎_elim, arith}
+use Rattle.std.proofs.Common.{◌≡◌, ℕ, ◌<◌, Bool, false, not, ◌&&◌, List, get_or, Decides, sym, refl, ap, ◌∙◌, ⊎_elim}
 use Rattle.std.proofs.lemmas.Bool.{and_parts, and_from, not-true, not_from_false, both_ways, cases_order}
 use Rattle.plan.specs.Model.{Model, Lawful}
-use Rattle.plan.specs.Runs.{Marked, Unmarked, Step, Reaches, Leads, Between, Stuck, Circling, Sound}
+use Rattle.plan.specs.Runs.{Leads, Between, Stuck, Circling}
 use Rattle.plan.specs.Runs.Leads.{by_step, through}
 use Rattle.plan.proofs.Closings.{leads_reaches, led_to, step_below}
 use Rattle.walk.specs.Walking.{MarkedLeadInto}
-use Rattle.vet.specs.declared.finding.Finding.{Finding}
 use Rattle.vet.specs.declared.finding.Finding.TheVariants.{SoundPlan, StartUnmarked, StuckAt, CirclingAt}
-use Rattle.vet.specs.Findings.{LowestSuch, Finds, OneFinding}
+use Rattle.vet.specs.Findings.{LowestSuch, OneFinding}
 
 module _ (m : Model) where
   -- the states that marked ones lead to, and their marks, tell which states are between closings

@@ -1,13 +1,13 @@
 -- A state is reached: what the walk has shown so far stays true.
-use Rattle.std.proofs.Common.{◌≡◌, ℕ, suc, ◌+◌, ◌<◌, ◌≤◌, Bool, true, false, cond, not, ◌&&◌, ◌≢◌, ◌⊎◌, List, length, get_or, take, set, sym, refl, ap, ◌∙◌, subst, inl, inr, ⊎_elim, arith, below_more}
+use Rattle.std.proofs.Common.{◌≡◌, ℕ, ◌+◌, ◌<◌, ◌≤◌, Bool, true, false, cond, not, ◌⊎◌, List, length, get_or, set, sym, refl, ◌∙◌, subst, inr, ⊎_elim, arith, below_more}
 use Rattle.std.proofs.lemmas.List.{length-set, get_or-set_same, get_or-set_other}
-use Rattle.std.proofs.lemmas.Bool.{cases_Bool, cases_eq, cases_lt, and_parts, and_cases, not-true, not-false, both_ways}
-use Rattle.plan.specs.Model.{Model, Lawful}
-use Rattle.plan.specs.Runs.{Step, Unmarked, Leads}
+use Rattle.std.proofs.lemmas.Bool.{cases_Bool, cases_lt, and_parts, and_cases, not-true, not-false, both_ways}
+use Rattle.plan.specs.Model.{Model}
+use Rattle.plan.specs.Runs.{Step, Unmarked}
 use Rattle.plan.specs.Runs.Leads.{by_step, through}
-use Rattle.walk.specs.Walking.{In, LedTo, Work, Room, is_fresh, after_reaching, Progress, Expanding, absent}
+use Rattle.walk.specs.Walking.{In, LedTo, Work, Room, is_fresh, after_reaching, Progress, Expanding}
 use Rattle.walk.proofs.Absent.{absent_less}
-use Rattle.walk.proofs.Sets.{in_within, in_new, in_old, in_cases}
+use Rattle.walk.proofs.Sets.{in_new, in_old, in_cases}
 
 -- where a state was never in the queue there is a place for it
 pub place_left : (n : ℕ) (w : Work) (t : ℕ) → Room n w → t < n → get_or w.queued t false ≡ false → w.len < length w.queue

@@ -1,13 +1,13 @@
 -- From the first states to the end of a walk.
-use Rattle.std.proofs.Common.{◌≡◌, ℕ, suc, ◌+◌, ◌<◌, ◌≤◌, Bool, true, false, cond, not, ◌&&◌, ◌≢◌, ◌⊎◌, List, [], length, get_or, take, set, sym, refl, ap, ◌∙◌, subst, inl, inr, ⊎_elim, arith}
+use Rattle.std.proofs.Common.{◌≡◌, ℕ, ◌+◌, ◌<◌, ◌≤◌, Bool, true, false, ◌≢◌, List, length, get_or, set, sym, refl, ap, ◌∙◌, subst, inl, ⊎_elim, arith}
 use Rattle.std.proofs.lemmas.List.{length-set, get_or-set_same, get_or-set_other}
 use Rattle.std.proofs.lemmas.Bool.{cases_Bool, cases_eq, cases_lt, both_ways}
 use Rattle.plan.specs.Model.{Model, Lawful}
-use Rattle.plan.specs.Runs.{Step, Unmarked, Leads}
+use Rattle.plan.specs.Runs.{Step, Leads}
 use Rattle.plan.specs.Runs.Leads.{by_step, through}
-use Rattle.walk.specs.Walking.{In, LedTo, Walked, OnlyOne, LeadsInto, Work, Room, Progress, Expanding, Spread, Loaded, Walking, after_reaching, absent}
+use Rattle.walk.specs.Walking.{In, Walked, OnlyOne, LeadsInto, Work, Progress, Expanding, Spread, Loaded, Walking, after_reaching}
 use Rattle.walk.proofs.Absent.{absent_less, absent_most}
-use Rattle.walk.proofs.Sets.{in_within, in_new, in_old, in_cases}
+use Rattle.walk.proofs.Sets.{in_new, in_old, in_cases}
 use Rattle.walk.proofs.Reaching.{room_after, at_stays, expanding_more}
 
 -- one step more

@@ -1,6 +1,6 @@
-use Rattle.std.proofs.Common.{◌≡◌, ◌≤◌, length, sym, arith}
+use Rattle.std.proofs.Common.{◌≤◌, length, sym, arith}
 use Rattle.std.proofs.lemmas.Bool.{and_from, le-leb, true≢false}
-use Rattle.walk.proofs.Ways.{walking_start, walking_more, walked_all}
+use Rattle.walk.proofs.Ways.{walking_more, walked_all}
 use Rattle.walk.proofs.walk.Goals as goal
 
 pub overflow_add-done : goal.overflow_add-done

@@ -1,4 +1,4 @@
-use Rattle.std.proofs.Common.{◌-◌, ◌≤◌}
+use Rattle.std.proofs.Common.{◌-◌}
 use Rattle.walk.specs.Walking.{Walking}
 use Rattle.walk.proofs.walk.Given as goal
 

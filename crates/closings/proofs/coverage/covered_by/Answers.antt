@@ -1,4 +1,4 @@
-use Rattle.std.proofs.Common.{◌≡◌, sym, subst, arith}
+use Rattle.std.proofs.Common.{sym, subst, arith}
 use Rattle.pairs.specs.Pairs.{Pairs, kept_pairs}
 use Rattle.closings.specs.Tables.{RowsBelow, CoveredBy}
 use Rattle.closings.proofs.Tables.{rows_none, rows_more, rows_all, has_below}

@@ -1,4 +1,4 @@
-use Rattle.std.proofs.Common.{◌≡◌, eqb, sym, refl, ap, ◌∙◌, subst}
+use Rattle.std.proofs.Common.{eqb, sym, refl, ap, ◌∙◌, subst}
 use Rattle.plan.specs.Answers.{success}
 use Rattle.comparison.specs.Settings.{Setting, setting_of, standing, OnlyMarked, Consistent}
 use Rattle.comparison.proofs.Lists.{setting_stays}

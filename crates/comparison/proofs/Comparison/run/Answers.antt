@@ -1,4 +1,4 @@
-use Rattle.std.proofs.Common.{◌≡◌, get_or, sym, refl, ap, ◌∙◌, subst, arith}
+use Rattle.std.proofs.Common.{get_or, refl, subst, arith}
 use Rattle.comparison.specs.Settings.{Setting, setting_of, standing}
 use Rattle.comparison.specs.Histories.{Does, no_call}
 use Rattle.comparison.proofs.Lists.{setting_stays, same_again, one_history, running_none, running_more, ran_all}

@@ -1,4 +1,4 @@
-use Rattle.std.proofs.Common.{◌≡◌, ◌≤◌, sym, refl, subst, arith, below_more}
+use Rattle.std.proofs.Common.{sym, refl, arith, below_more}
 use Rattle.std.proofs.lemmas.Bool.{both_ways}
 use Rattle.pairs.specs.Pairs.{Has, kept_pairs}
 use Rattle.fitting.specs.Bisimilarity.{Matched}

@@ -1,6 +1,5 @@
-use Rattle.std.proofs.Common.{◌≡◌, Err, sym, ap, ◌∙◌, subst}
+use Rattle.std.proofs.Common.{Err, sym, ap, ◌∙◌, subst}
 use Rattle.std.proofs.lemmas.Result.{err_from_is_err_and}
-use Rattle.plan.specs.Model.{Model}
 use Rattle.pairs.specs.Pairs.{kept_pairs}
 use Rattle.fitting.specs.declared.misfit.Misfit.TheVariants.{Plans}
 use Rattle.fitting.specs.Judging.{PairsAsked, Judges}

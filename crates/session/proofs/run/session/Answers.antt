@@ -1,10 +1,9 @@
-use Rattle.std.proofs.Common.{◌≡◌, ◌+◌, ◌≤◌, true, false, length, set, sym, refl, ap, ◌∙◌, subst, arith}
+use Rattle.std.proofs.Common.{◌≡◌, true, false, length, ap, ◌∙◌, arith}
 use Rattle.std.proofs.lemmas.List.{length-set}
 use Rattle.std.proofs.lemmas.Result.{IfOk-at_ok}
 use Rattle.layout.specs.Refusals.{opening_numbers}
 use Rattle.drawing.specs.contracts.drawing.ask.DrawingPlan.TheImpl.{ghosts}
 use Rattle.drawing.specs.Layout.{drawing_answer, drawing_plan}
-use Rattle.commands.specs.Commands.{commands_of}
 use Rattle.session.specs.Session.{line, succeeds}
 use Rattle.session.proofs.Whole.{commands_few, refused_fails, room_there, print_refused, print_rest}
 use Rattle.session.proofs.run.session.Goals as goal

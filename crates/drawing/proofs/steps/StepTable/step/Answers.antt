@@ -1,5 +1,4 @@
-use Rattle.std.proofs.Common.{◌≡◌, ◌+◌, ◌<◌, ◌≤◌, get_or, sym, ap, ◌∙◌, subst}
-use Rattle.drawing.specs.Stored.{span_of}
+use Rattle.std.proofs.Common.{◌+◌, ◌<◌, ◌≤◌, get_or, sym, ap, ◌∙◌, subst}
 use Rattle.drawing.proofs.Spans.{span_at, span_past}
 use Rattle.drawing.proofs.steps.StepTable.step.Goals as goal
 

@@ -1,4 +1,4 @@
-use Rattle.std.proofs.Common.{◌≡◌, subst}
+use Rattle.std.proofs.Common.{subst}
 use Rattle.pairs.specs.Pairs.{Pairs, kept_pairs}
 use Rattle.closings.specs.Tables.{Tabulates, CoveredBy}
 use Rattle.fitting.proofs.covering.Covering.of.Goals as goal
