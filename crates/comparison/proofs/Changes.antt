@@ -60,10 +60,10 @@ module _ (setting : Setting) (pairs : Pairs) where
   marked_without s t old x y e = old x y (and_parts (not (is_pair s t x y)) (pairs x y) e).1
 
 -- a pair that is allowed was put in, or taken out
-module _ (setting : Setting) (pairs new : Pairs) (s t : ℕ) (stood : Bool) (not_refused : None ≡ pair_refused setting s t) (stood-is : stood ≡ pairs s t)
+module _ (setting : Setting) (pairs new : Pairs) (s t : ℕ) (stood : Bool) (not_refused : None ≡ pair_refused setting s t) (stood_is : stood ≡ pairs s t)
     (marked : OnlyMarked setting pairs) where
   pub change_answer : Ok stood ≡ change_result setting pairs s t
-  change_answer = ap Ok stood-is ∙ ap (λ o. or_refused o (pairs s t)) not_refused
+  change_answer = ap Ok stood_is ∙ ap (λ o. or_refused o (pairs s t)) not_refused
 
   pub added : setting.first.states ≤ 128 → setting.second.states ≤ 128 → new ≡ cond (fits_table s t) (with_pair pairs s t) pairs
       → (new ≡ after_add setting pairs s t) × OnlyMarked setting new

@@ -30,12 +30,12 @@ row_is b h i row header low is =
 -- one row more in the table
 pub fill_more : (b : List ℕ) (i s t : ℕ) (old new : Pairs) → s ≡ first_in b i → t ≡ second_in b i → fits_table (first_in b i) (second_in b i) ≡ true
     → old ≡ rows_up_to b i → new ≡ cond (fits_table s t) (with_pair old s t) old → new ≡ rows_up_to b (i + 1)
-fill_more b i s t old new s_is t_is fits old-is New-is =
-    New-is
+fill_more b i s t old new s_is t_is fits old_is new_is =
+    new_is
     ∙ ap (λ x. cond (fits_table x t) (with_pair old x t) old) s_is
     ∙ ap (λ y. cond (fits_table (first_in b i) y) (with_pair old (first_in b i) y) old) t_is
     ∙ ap (λ v. cond v (with_pair old (first_in b i) (second_in b i)) old) fits
-    ∙ ap (λ pairs. with_pair pairs (first_in b i) (second_in b i)) old-is
+    ∙ ap (λ pairs. with_pair pairs (first_in b i) (second_in b i)) old_is
     ∙ ap (rows_up_to b) (sym (add-one i))
 
 -- rows that are allowed fit the table, and join only marked states

@@ -1,5 +1,5 @@
 // Loading the pairs of a pair file, all or none.
-ghost use Rattle.std.specs.Prelude.{◌≡◌, ℕ, ◌<◌, MatchOption};
+ghost use Rattle.std.specs.Prelude.{◌≡◌, ◌<◌, MatchOption};
 ghost use Rattle.pairs.specs.Pairs.{kept_pairs};
 ghost use Rattle.pairs.specs.PairFile.{HeaderOf, pairs_in, count_in};
 ghost use Rattle.comparison.specs.Settings.{setting_of, standing, Consistent, SameSetting};

@@ -1,5 +1,5 @@
 // Why a call on a comparison is refused.
-ghost use Rattle.std.specs.Prelude.{◌≡◌, ℕ};
+ghost use Rattle.std.specs.Prelude.{◌≡◌};
 ghost use Rattle.comparison.specs.Calls.{side_number, pair_numbers, load_refusal_numbers};
 ghost use Rattle.comparison.specs.declared.refusal.LoadRefusal.TheVariants.{BadFile};
 

@@ -1,5 +1,5 @@
 // The steps of a drawing: all targets in one row, and for each state where its own begin and how many they are.
-ghost use Rattle.std.specs.Prelude.{◌≡◌, ℕ, ◌+◌, ◌<◌, ◌≤◌, List, length, replicate, slice_index, slice_set};
+ghost use Rattle.std.specs.Prelude.{◌≡◌, ◌+◌, ◌<◌, ◌≤◌, length, replicate, slice_index, slice_set};
 ghost use Rattle.drawing.specs.Stored.{no_span, span_of, steps_of, extended, SpansFit};
 
 #[derive(Clone, Copy)]

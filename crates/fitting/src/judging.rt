@@ -1,5 +1,5 @@
 // Judging a set of pairs: the questions in their order.
-ghost use Rattle.std.specs.Prelude.{◌≡◌, ℕ, true, is_ok, Err, Decides, MatchOption, MatchResult};
+ghost use Rattle.std.specs.Prelude.{◌≡◌, true, is_ok, Err, Decides, MatchOption, MatchResult};
 ghost use Rattle.plan.specs.Runs.{Sound};
 ghost use Rattle.vet.specs.Findings.{Finds};
 ghost use Rattle.pairs.specs.Pairs.{kept_pairs};

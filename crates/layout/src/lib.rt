@@ -1,7 +1,7 @@
 // What plan files have in common: numbers, the first two questions, and the refusals.
 #![tactic(auto)]
 
-ghost use Rattle.std.specs.Prelude.{◌≡◌, ℕ, ◌+◌};
+ghost use Rattle.std.specs.Prelude.{◌≡◌, ◌+◌};
 ghost use Rattle.layout.specs.Bytes.{byte_at, word_at, long_at};
 ghost use Rattle.layout.specs.Lowest.{LowestMeans};
 ghost use Rattle.layout.specs.Questions.{fits_length, begins_with};

@@ -32,7 +32,7 @@ abbrev pub Silent : Model → Type 0
 Silent m = (s k : ℕ) → m.mark s ≡ false → m.code s k ≡ 0
 
 -- a state that does not exist is not marked, has code 0 on every channel, and has no steps;
--- a channel that does not exist has code 0. (A step that does not exist is 0 by the default of `get_or`.)
+-- a channel that does not exist has code 0. (A step that does not exist is 0, since `slice_index` gives 0 past the end.)
 abbrev pub UnmarkedPast : Model → Type 0
 UnmarkedPast m = (s : ℕ) → m.states ≤ s → m.mark s ≡ false
 

@@ -1,7 +1,7 @@
 // What a sampling plan is: the interface of every plan kind, and the five numbers of an answer.
 #![tactic(auto)]
 
-ghost use Rattle.std.specs.Prelude.{◌≡◌, ℕ, length, slice_index};
+ghost use Rattle.std.specs.Prelude.{◌≡◌, length, slice_index};
 ghost use Rattle.plan.specs.Model.{Model, Lawful};
 
 pub mod answer;

@@ -1,5 +1,5 @@
 // The commands of a session: from commands to calls, and from the calls' answers to lines.
-ghost use Rattle.std.specs.Prelude.{◌≡◌, ℕ, ◌+◌, ◌≤◌, ◌++◌, length, take, MatchOption, slice_index_or};
+ghost use Rattle.std.specs.Prelude.{◌≡◌, ◌+◌, ◌≤◌, ◌++◌, length, take, MatchOption, slice_index_or};
 ghost use Rattle.comparison.specs.Histories.{no_answer};
 ghost use Rattle.commands.specs.declared.command.Command.TheVariants.{Unknown};
 ghost use Rattle.session.specs.Session.{Makes, MakeCalls, Answered, command_lines, line_of, is_call};

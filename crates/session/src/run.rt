@@ -1,5 +1,5 @@
 // A session: from the bytes that are read to the lines that are printed.
-ghost use Rattle.std.specs.Prelude.{◌≡◌, ℕ, ◌+◌, ◌≤◌, length, take, MatchOption};
+ghost use Rattle.std.specs.Prelude.{◌≡◌, ◌+◌, ◌≤◌, length, take, MatchOption};
 ghost use Rattle.drawing.specs.contracts.drawing.ask.DrawingPlan.TheImpl.{ghosts};
 ghost use Rattle.session.specs.Running.{Printed, NoRoom, RestPrinted, has_room};
 

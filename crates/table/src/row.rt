@@ -1,5 +1,5 @@
 // A row of a table: one state.
-ghost use Rattle.std.specs.Prelude.{◌≡◌, ℕ, ◌<◌, if◌then◌else◌, Some, None};
+ghost use Rattle.std.specs.Prelude.{◌≡◌, ◌<◌, if◌then◌else◌, Some, None};
 ghost use Rattle.table.specs.Layout.{flag_set, proper, proper_at};
 ghost use Rattle.table.specs.Rows.{kept_steps, kept_row, leads_within};
 

@@ -1,5 +1,5 @@
 // Finds the first fault of a plan.
-ghost use Rattle.std.specs.Prelude.{◌≡◌, ℕ, ◌<◌, Decides, MatchOption};
+ghost use Rattle.std.specs.Prelude.{ℕ, ◌<◌, Decides, MatchOption};
 ghost use Rattle.plan.specs.Runs.{Leads, Between, Stuck, Circling};
 ghost use Rattle.walk.specs.Walking.{MarkedLeadInto};
 ghost use Rattle.vet.specs.Findings.{Finds, LowestSuch};

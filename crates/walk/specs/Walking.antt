@@ -1,5 +1,5 @@
 -- What a walk marks, and how far it has come.
-use Rattle.std.specs.Prelude.{◌≡◌, ℕ, suc, ◌+◌, ◌<◌, ◌≤◌, Bool, true, false, cond, not, ◌&&◌, ◌⊎◌, List, [], ◌∷◌, length, take, set, Decides, nat_le, slice_index, slice_index_or, slice_set}
+use Rattle.std.specs.Prelude.{◌≡◌, ℕ, suc, ◌+◌, ◌<◌, ◌≤◌, Bool, true, false, cond, not, ◌&&◌, ◌⊎◌, List, [], ◌∷◌, length, take, Decides, nat_le, slice_index, slice_index_or, slice_set}
 use Rattle.plan.specs.Model.{Model}
 use Rattle.plan.specs.Runs.{Step, Marked, Unmarked, Leads}
 

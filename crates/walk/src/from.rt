@@ -1,5 +1,5 @@
 // Walks from one state and from all marked ones, with work space of their own.
-ghost use Rattle.std.specs.Prelude.{◌≡◌, ℕ, ◌≤◌, Bool, false, slice_index_or};
+ghost use Rattle.std.specs.Prelude.{◌≡◌, ℕ, false, slice_index_or};
 ghost use Rattle.walk.specs.Walking.{LeadsInto, MarkedLeadInto, OnlyOne, Walked};
 
 use crate::walk;

@@ -2,8 +2,8 @@
 // unmarked states between. Each state is expanded once, so a walk is linear in the plan's steps.
 #![tactic(auto)]
 
-ghost use Rattle.std.specs.Prelude.{◌≡◌, ℕ, ◌+◌, ◌<◌, ◌≤◌, Bool, true, false, cond, List, length, slice_index_or};
-ghost use Rattle.walk.specs.Walking.{Work, Room, Reached, Spread, Loaded, Walked, enough};
+ghost use Rattle.std.specs.Prelude.{◌≡◌, ℕ, ◌+◌, ◌<◌, ◌≤◌, true, false, length, slice_index_or};
+ghost use Rattle.walk.specs.Walking.{Room, Reached, Spread, Loaded, Walked, enough};
 
 use plan::Plan;
 
@@ -29,7 +29,7 @@ fn reach<P: Plan>(
     queue: &mut [usize],
     len: usize,
 ) -> usize
-    requires { (Room (P.meaning plan.now).states (record { reached = reached.now; queued = queued.old; queue = queue.old; len = len })) × (state < (P.meaning plan.now).states) }
+    requires { (Room (P.meaning plan.now).states (record { reached = reached.old; queued = queued.old; queue = queue.old; len = len })) × (state < (P.meaning plan.now).states) }
     ensures { Reached (P.meaning plan.now) state (record { reached = reached.old; queued = queued.old; queue = queue.old; len = len }) (record { reached = reached.new; queued = queued.new; queue = queue.new; len = result }) }
 {
     reached[state] = true;
@@ -50,7 +50,7 @@ fn expand<P: Plan>(
     queue: &mut [usize],
     len: usize,
 ) -> usize
-    requires { Room (P.meaning plan.now).states (record { reached = reached.now; queued = queued.old; queue = queue.old; len = len }) }
+    requires { Room (P.meaning plan.now).states (record { reached = reached.old; queued = queued.old; queue = queue.old; len = len }) }
     ensures { Spread (P.meaning plan.now) state (length ((P.meaning plan.now).steps state)) (record { reached = reached.old; queued = queued.old; queue = queue.old; len = len }) (record { reached = reached.new; queued = queued.new; queue = queue.new; len = result }) }
 {
     let mut waiting = len;

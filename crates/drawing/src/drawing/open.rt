@@ -1,6 +1,5 @@
 // Opening a drawing file: the seven questions, in their order.
-ghost use Rattle.std.specs.Prelude.{◌≡◌, ℕ, ◌<◌, not, IfOk, MatchResult};
-ghost use Rattle.layout.specs.Bytes.{word_at};
+ghost use Rattle.std.specs.Prelude.{◌≡◌, ◌<◌, IfOk, MatchResult};
 ghost use Rattle.layout.specs.Refusals.{opening_numbers};
 ghost use Rattle.drawing.specs.Layout.{states_in, steps_in, astray_in, before, drawing_plan, drawing_answer};
 ghost use Rattle.drawing.specs.contracts.drawing.ask.DrawingPlan.TheImpl.{ghosts};

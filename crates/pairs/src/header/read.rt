@@ -1,5 +1,5 @@
 // Reading a pair file: the questions that are put to the file alone, and its rows.
-ghost use Rattle.std.specs.Prelude.{◌≡◌, ℕ, ◌+◌, ◌*◌, ◌<◌, not, if◌then◌else◌, MatchOption, MatchResult, nat_lt};
+ghost use Rattle.std.specs.Prelude.{◌≡◌, ◌+◌, ◌*◌, ◌<◌, not, if◌then◌else◌, MatchOption, MatchResult, nat_lt};
 ghost use Rattle.layout.specs.Lowest.{Lowest};
 ghost use Rattle.layout.specs.Bytes.{byte_at};
 ghost use Rattle.pairs.specs.PairFile.{HeaderOf, FrameOf, RefusedFile, InOrder, out_of_order, count_in};

@@ -1,5 +1,5 @@
 // Opening a table file: the seven questions, in their order.
-ghost use Rattle.std.specs.Prelude.{◌≡◌, ℕ, ◌≤◌, IfOk, MatchResult};
+ghost use Rattle.std.specs.Prelude.{◌≡◌, ◌≤◌, IfOk, MatchResult};
 ghost use Rattle.layout.specs.Refusals.{opening_numbers};
 ghost use Rattle.table.specs.Layout.{table_plan, table_answer, states_in};
 ghost use Rattle.table.specs.contracts.table.ask.TablePlan.TheImpl.{ghosts};
