@@ -1,7 +1,7 @@
 -- How a line is read as a command.
-use Rattle.std.specs.Prelude.{ℕ, ◌+◌, ◌-◌, ◌*◌, Bool, true, false, cond, ◌&&◌, List, [], ◌∷◌, map, length, ◌==◌, nat_le, slice_index, slice_index_or}
+use Rattle.std.specs.Prelude.{ℕ, ◌+◌, ◌-◌, ◌*◌, Bool, true, cond, ◌&&◌, List, [], ◌∷◌, map, length, ◌==◌, nat_le, slice_index, slice_index_or}
 use Rattle.commands.specs.declared.command.Command.{Command}
-use Rattle.commands.specs.declared.command.Command.TheVariants.{Add, Strike, Load, Judge, Search, Unknown}
+use Rattle.commands.specs.declared.command.Command.TheVariants.{Add, Strike, Load, Unknown}
 use Rattle.commands.specs.Lines.{lines_of, fields_of}
 
 -- a decimal digit, '0' to '9'
@@ -33,20 +33,12 @@ abbrev pub is_pair_line : ℕ → List (List ℕ) → Bool
 is_pair_line c fields =
     (length fields == 3) && is_letter c (slice_index_or fields 0 []) && is_number (slice_index_or fields 1 []) && is_number (slice_index_or fields 2 [])
 
--- one field that is one letter
-abbrev pub is_lone : List (List ℕ) → Bool
-is_lone fields = length fields == 1 && length (slice_index_or fields 0 []) == 1
-
--- a letter alone: 'p' loads the pair file, 'j' judges, 'f' searches
-abbrev pub lone_command : ℕ → Command
-lone_command letter = cond (letter == 112) Load (cond (letter == 106) Judge (cond (letter == 102) Search Unknown))
-
--- 'a' and two numbers adds a pair, 's' and two numbers strikes one; then the letters that stand alone; any other line is unknown
+-- 'a' and two numbers adds a pair, 's' and two numbers strikes one, 'p' alone loads the pair file; any other line is unknown
 abbrev pub command_in : List (List ℕ) → Command
 command_in fields =
     cond (is_pair_line 97 fields) (Add (number_in (slice_index_or fields 1 [])) (number_in (slice_index_or fields 2 [])))
     (cond (is_pair_line 115 fields) (Strike (number_in (slice_index_or fields 1 [])) (number_in (slice_index_or fields 2 [])))
-    (cond (is_lone fields) (lone_command (slice_index (slice_index_or fields 0 []) 0)) Unknown))
+    (cond (length fields == 1 && is_letter 112 (slice_index_or fields 0 [])) Load Unknown))
 
 abbrev pub command_of : List ℕ → Command
 command_of line = command_in (fields_of line)

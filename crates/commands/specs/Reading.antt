@@ -1,9 +1,9 @@
 -- What the parts of reading commands give.
-use Rattle.std.specs.Prelude.{◌≡◌, ℕ, suc, ◌+◌, ◌-◌, ◌<◌, ◌≤◌, Bool, cond, ◌&&◌, List, [], ◌∷◌, ◌++◌, length, take, drop, Some, None, Option, ◌==◌, slice_index_or, slice_range}
+use Rattle.std.specs.Prelude.{◌≡◌, ℕ, suc, ◌+◌, ◌<◌, ◌≤◌, Bool, cond, ◌&&◌, List, [], ◌∷◌, ◌++◌, length, take, drop, Some, None, Option, ◌==◌, slice_index_or, slice_range}
 use Rattle.commands.specs.declared.command.Command.{Command}
-use Rattle.commands.specs.declared.command.Command.TheVariants.{Add, Strike, Unknown}
+use Rattle.commands.specs.declared.command.Command.TheVariants.{Add, Strike, Load, Unknown}
 use Rattle.commands.specs.Lines.{lines_of}
-use Rattle.commands.specs.Commands.{all_digits, read_on, is_number, number_in, lone_command, commands_of}
+use Rattle.commands.specs.Commands.{all_digits, read_on, is_number, number_in, commands_of}
 
 -- how many bytes stand before the first of these
 abbrev pub bytes_before : ℕ → List ℕ → ℕ
@@ -42,7 +42,7 @@ made_of make (Some numbers) = make numbers.0 numbers.1
 -- the command of a letter, from the two numbers behind it, if they are there, and from whether it stands alone
 abbrev pub command_by : ℕ → Option (ℕ × ℕ) → Bool → Command
 command_by letter numbers alone =
-    cond (letter == 97) (made_of Add numbers) (cond (letter == 115) (made_of Strike numbers) (cond alone (lone_command letter) Unknown))
+    cond (letter == 97) (made_of Add numbers) (cond (letter == 115) (made_of Strike numbers) (cond (letter == 112 && alone) Load Unknown))
 
 -- input is read up to a place, and its first commands stand; what lies behind them is untouched
 pub record SoFar (input : List ℕ) (was : List Command) (at count : ℕ) (became : List Command) : Type 0 where

@@ -7,10 +7,6 @@ pub enum Command {
     Strike(usize, usize),
     // Load the pair file.
     Load,
-    // Judge the pairs.
-    Judge,
-    // Find the largest fitting set.
-    Search,
     // No command.
     Unknown,
 }

@@ -20,8 +20,6 @@ fn command_by(letter: u8, numbers: Option<(usize, usize)>, alone: bool) -> Comma
             None => Command::Unknown,
         },
         'p' if alone => Command::Load,
-        'j' if alone => Command::Judge,
-        'f' if alone => Command::Search,
         _ => Command::Unknown,
     }
 }

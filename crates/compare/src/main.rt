@@ -1,5 +1,5 @@
-// Opens the plan files of the working folder, runs the commands of standard input, and prints a line for each, and the verdict at the
-// end: a letter and the five numbers of the answer.
+// Opens the plan files of the working folder, runs the commands of standard input, and prints a line for each: a letter and the
+// five numbers of the answer.
 #![tactic(auto)]
 
 use commands::Command;
@@ -54,7 +54,7 @@ fn run(rt: &HostRuntime) -> anyhow::Result<()> {
         letter: ' ',
         answer: Answer::success(0, 0),
     };
-    let mut lines = vec![in heap; blank; most.saturating_add(4)]?;
+    let mut lines = vec![in heap; blank; most.saturating_add(3)]?;
     let printed = session(
         &drawing,
         &table,

@@ -1,20 +1,16 @@
 -- Lists of calls: one call after the other, and why there is only one history.
-use Rattle.std.proofs.Common.{◌≡◌, ℕ, zero, suc, ◌+◌, ◌<◌, ◌≤◌, Bool, true, false, cond, ltb, ◌≢◌, ◌⊎◌, List, length, get_or, drop, set, sym, refl, ap, ◌∙◌, subst, inl, inr, ⊎_elim, add-one, arith}
+use Rattle.std.proofs.Common.{◌≡◌, ℕ, zero, suc, ◌+◌, ◌<◌, ◌≤◌, cond, ltb, ◌≢◌, List, length, get_or, drop, set, sym, refl, ap, ◌∙◌, subst, ⊎_elim, add-one, arith}
 use Rattle.std.proofs.lemmas.List.{length-set, get_or-set_same, get_or-set_other, drop-set-lt, drop-drop}
 use Rattle.std.proofs.lemmas.Bool.{cases_eq, lt-ltb, le-ltb}
 use Rattle.plan.specs.declared.answer.Answer.{Answer}
 use Rattle.plan.specs.Model.{Model}
 use Rattle.rules.specs.Rules.{Says}
 use Rattle.pairs.specs.Pairs.{Pairs}
-use Rattle.fitting.specs.Numbers.{verdict_numbers}
-use Rattle.fitting.proofs.Verdicts.{judges_one}
 use Rattle.comparison.specs.declared.Comparison.{Comparison}
 use Rattle.comparison.specs.declared.calls.Call.{Call}
-use Rattle.comparison.specs.declared.calls.Call.TheVariants.{Add, Strike, Load, Judge, Search}
+use Rattle.comparison.specs.declared.calls.Call.TheVariants.{Add, Strike, Load}
 use Rattle.comparison.specs.Settings.{Setting, setting_of, SameSetting}
-use Rattle.comparison.specs.Histories.{Does, no_call, no_answer, History, HasHistory, OneHistory, Ran, Running}
-use Rattle.comparison.specs.Searching.{found_numbers}
-use Rattle.comparison.proofs.Searchings.{searches_one}
+use Rattle.comparison.specs.Histories.{Does, no_call, no_answer, History, OneHistory, Ran, Running}
 
 -- the setting stays where plans, findings and rule do
 pub setting_stays : {A B R : Type 0} (a : A → Model) (b : B → Model) (says : R → Says) (c d : Comparison A B R) → SameSetting c d
@@ -40,15 +36,6 @@ module _ (setting : Setting) where
   does_one pairs (Add s t) x y left other p q = (p.0 ∙ sym q.0, p.1 ∙ sym q.1)
   does_one pairs (Strike s t) x y left other p q = (p.0 ∙ sym q.0, p.1 ∙ sym q.1)
   does_one pairs (Load file) x y left other p q = (p.0 ∙ sym q.0, p.1 ∙ sym q.1)
-  does_one pairs Judge x y left other p q = (
-    p.0.2
-        ∙ ap verdict_numbers (judges_one setting.first setting.second setting.says pairs p.0.0 q.0.0 p.0.1 q.0.1)
-        ∙ sym q.0.2,
-    p.1 ∙ sym q.1,
-  )
-  does_one pairs Search x y left other p q =
-      let same = searches_one setting pairs p.0 q.0 left other p.1 q.1 in
-      (p.2 ∙ ap found_numbers same.0 ∙ sym q.2, same.1)
 
   module _ (begin : Pairs) (calls : List Call) (answers others : List Answer) (after later : ℕ → Pairs)
       (one : History setting begin calls answers after) (two : History setting begin calls others later) where

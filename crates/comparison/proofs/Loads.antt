@@ -1,22 +1,21 @@
 -- Loading a pair file, row by row.
-use Rattle.std.proofs.Common.{◌≡◌, ℕ, zero, suc, ◌+◌, ◌*◌, ◌<◌, ◌≤◌, Bool, true, false, cond, ◌&&◌, ◌||◌, eqb, ltb, ◌⊎◌, List, is_some, Some, None, Option, sym, refl, ap, ◌∙◌, subst, inl, inr, ⊎_elim, add-one, arith}
+use Rattle.std.proofs.Common.{◌≡◌, ℕ, zero, suc, ◌+◌, ◌*◌, ◌<◌, ◌≤◌, true, false, cond, eqb, ltb, List, is_some, Some, None, sym, refl, ap, ◌∙◌, subst, ⊎_elim, add-one, arith}
 use Rattle.std.proofs.lemmas.Bool.{lt-ltb, or_cases, and_parts, eqb-true, both_ways}
 use Rattle.plan.specs.Answers.{success}
 use Rattle.plan.specs.Runs.{Marked}
 use Rattle.layout.specs.Bytes.{byte_at}
-use Rattle.layout.specs.Lowest.{lowest, Lowest}
+use Rattle.layout.specs.Lowest.{lowest}
 use Rattle.layout.proofs.LowestOf.{lowest_is, lowest_none}
 use Rattle.pairs.specs.declared.header.PairHeader.{PairHeader}
 use Rattle.pairs.specs.Pairs.{Pairs, is_pair, with_pair, fits_table}
-use Rattle.pairs.specs.PairFile.{HeaderOf, count_in, first_in, second_in, rows_in, rows_up_to, pairs_in, file_asked}
+use Rattle.pairs.specs.PairFile.{HeaderOf, count_in, first_in, second_in, rows_up_to, pairs_in}
 use Rattle.pairs.proofs.Files.{asked_on}
 use Rattle.comparison.specs.declared.refusal.PairRefusal.{PairRefusal}
 use Rattle.comparison.specs.declared.refusal.PairRefusal.TheVariants.{NoState, Unmarked}
-use Rattle.comparison.specs.Settings.{Setting}
-use Rattle.fitting.specs.Bisimilarity.{OnlyMarked}
+use Rattle.comparison.specs.Settings.{Setting, OnlyMarked}
 use Rattle.comparison.specs.Calls.{row_refused, rows_asked, row_numbers, pair_numbers, load_answer, after_load}
 use Rattle.comparison.specs.Loading.{RowsAllowed, LowestRefusedRow, RowsFit}
-use Rattle.comparison.proofs.Changes.{Allowed, allowed, allowed_fits}
+use Rattle.comparison.proofs.Changes.{allowed, allowed_fits}
 
 -- what a header gives as row i is row i of the file
 pub row_is : (b : List ℕ) (h : PairHeader) (i : ℕ) (row : ℕ × ℕ) → HeaderOf b h → i < h.count
@@ -31,12 +30,12 @@ row_is b h i row header low is =
 -- one row more in the table
 pub fill_more : (b : List ℕ) (i s t : ℕ) (old new : Pairs) → s ≡ first_in b i → t ≡ second_in b i → fits_table (first_in b i) (second_in b i) ≡ true
     → old ≡ rows_up_to b i → new ≡ cond (fits_table s t) (with_pair old s t) old → new ≡ rows_up_to b (i + 1)
-fill_more b i s t old new s_is t_is fits old-is New-is =
-    New-is
+fill_more b i s t old new s_is t_is fits old_is new_is =
+    new_is
     ∙ ap (λ x. cond (fits_table x t) (with_pair old x t) old) s_is
     ∙ ap (λ y. cond (fits_table (first_in b i) y) (with_pair old (first_in b i) y) old) t_is
     ∙ ap (λ v. cond v (with_pair old (first_in b i) (second_in b i)) old) fits
-    ∙ ap (λ pairs. with_pair pairs (first_in b i) (second_in b i)) old-is
+    ∙ ap (λ pairs. with_pair pairs (first_in b i) (second_in b i)) old_is
     ∙ ap (rows_up_to b) (sym (add-one i))
 
 -- rows that are allowed fit the table, and join only marked states
@@ -45,7 +44,7 @@ module _ (setting : Setting) (b : List ℕ) where
   rows_fit_table few few' k rows i low =
       allowed_fits setting (first_in b i) (second_in b i) few few' (allowed setting (first_in b i) (second_in b i) (rows i low))
 
-  pub rows_marked : (k : ℕ) → RowsAllowed setting b k → OnlyMarked setting.first setting.second (rows_up_to b k)
+  pub rows_marked : (k : ℕ) → RowsAllowed setting b k → OnlyMarked setting (rows_up_to b k)
   rows_marked zero rows x y e = absurd (both_ways false refl e)
   rows_marked (suc i) rows x y e =
       ⊎_elim

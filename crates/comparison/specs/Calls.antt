@@ -1,14 +1,13 @@
 -- What each call answers, and which pairs stand after it, from the setting and the pairs that stood before.
-use Rattle.std.specs.Prelude.{◌≡◌, ℕ, Bool, true, false, cond, List, is_some, Some, None, Ok, Err, Option, Result, ◌==◌, nat_lt}
+use Rattle.std.specs.Prelude.{ℕ, Bool, cond, List, is_some, Some, None, Ok, Err, Option, Result, ◌==◌, nat_lt}
 use Rattle.plan.specs.declared.answer.Answer.{Answer}
-use Rattle.plan.specs.Answers.{numbers, success, side_number}
-use Rattle.plan.specs.Model.{Model}
+use Rattle.plan.specs.Answers.{numbers, success}
 use Rattle.layout.specs.Lowest.{lowest}
 use Rattle.layout.specs.Refusals.{refusal_numbers}
 use Rattle.pairs.specs.Pairs.{Pairs, with_pair, without_pair}
 use Rattle.pairs.specs.PairFile.{count_in, first_in, second_in, pairs_in, file_asked}
-use Rattle.plan.specs.declared.answer.Side.{Side}
-use Rattle.plan.specs.declared.answer.Side.TheVariants.{First, Second}
+use Rattle.comparison.specs.declared.refusal.Side.{Side}
+use Rattle.comparison.specs.declared.refusal.Side.TheVariants.{First, Second}
 use Rattle.comparison.specs.declared.refusal.PairRefusal.{PairRefusal}
 use Rattle.comparison.specs.declared.refusal.PairRefusal.TheVariants.{NoState, Unmarked}
 use Rattle.comparison.specs.declared.refusal.LoadRefusal.{LoadRefusal}
@@ -25,6 +24,11 @@ pair_refused setting s t =
     (Some (Unmarked First)))
     (Some (NoState Second)))
     (Some (NoState First))
+
+-- 1 or 2
+abbrev pub side_number : Side → ℕ
+side_number First = 1
+side_number Second = 2
 
 -- 13: no such state; 14: not marked. p is the row of a pair file, or 0
 abbrev pub pair_numbers : ℕ → PairRefusal → Answer

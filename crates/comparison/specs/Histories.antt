@@ -1,16 +1,11 @@
 -- Histories of calls: what each call of a list answers, and the pairs that stand after it.
-use Rattle.std.specs.Prelude.{◌≡◌, ℕ, ◌+◌, ◌<◌, ◌≤◌, List, length, drop, Result, slice_index_or}
+use Rattle.std.specs.Prelude.{◌≡◌, ℕ, ◌+◌, ◌<◌, ◌≤◌, List, length, drop, slice_index_or}
 use Rattle.plan.specs.declared.answer.Answer.{Answer}
 use Rattle.plan.specs.Answers.{numbers}
 use Rattle.pairs.specs.Pairs.{Pairs}
-use Rattle.fitting.specs.declared.misfit.Misfit.{Misfit}
-use Rattle.fitting.specs.Judging.{Judges}
-use Rattle.fitting.specs.Numbers.{verdict_numbers}
-use Rattle.largest.specs.declared.nofit.NoFit.{NoFit}
 use Rattle.comparison.specs.declared.calls.Call.{Call}
-use Rattle.comparison.specs.declared.calls.Call.TheVariants.{Add, Strike, Load, Judge, Search}
+use Rattle.comparison.specs.declared.calls.Call.TheVariants.{Add, Strike, Load}
 use Rattle.comparison.specs.Settings.{Setting}
-use Rattle.comparison.specs.Searching.{Searches, found_numbers}
 use Rattle.comparison.specs.Calls.{change_result, change_numbers, after_add, after_strike, load_answer, after_load}
 
 -- On these pairs the call answers so, and leaves those pairs.
@@ -18,12 +13,8 @@ abbrev pub Does : Setting → Pairs → Call → Answer → Pairs → Type 0
 Does setting pairs (Add s t) answer left = (answer ≡ change_numbers (change_result setting pairs s t)) × (left ≡ after_add setting pairs s t)
 Does setting pairs (Strike s t) answer left = (answer ≡ change_numbers (change_result setting pairs s t)) × (left ≡ after_strike setting pairs s t)
 Does setting pairs (Load file) answer left = (answer ≡ load_answer setting file.now) × (left ≡ after_load setting pairs file.now)
-Does setting pairs Judge answer left =
-    ((verdict : Result ℕ Misfit) × Judges setting.first setting.second setting.says pairs verdict × (answer ≡ verdict_numbers verdict))
-    × (left ≡ pairs)
-Does setting pairs Search answer left = (r : Result ℕ NoFit) × Searches setting pairs r left × (answer ≡ found_numbers r)
 
--- what a list is read as behind its end
+-- what stands behind the end of a list, and is never looked at
 abbrev pub no_call : Call
 no_call = Add 0 0
 

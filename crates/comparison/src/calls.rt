@@ -1,12 +1,13 @@
 // Lists of calls on a comparison.
 ghost use Rattle.std.specs.Prelude.{◌≡◌, MatchResult};
+ghost use Rattle.plan.specs.Answers.{numbers};
 ghost use Rattle.comparison.specs.Settings.{setting_of, standing, Consistent, SameSetting};
-ghost use Rattle.comparison.specs.Promises.{Promise};
+ghost use Rattle.comparison.specs.Calls.{change_numbers, load_numbers};
 ghost use Rattle.comparison.specs.Histories.{Does, Ran, NotRun, OneHistory};
 
 use crate::Comparison;
-use crate::answers::{change_answer, found_answer, load_answer, verdict_answer};
-use plan::{Answer, Plan, TooShort};
+use crate::refusal::{LoadRefusal, PairRefusal};
+use plan::{Answer, Plan};
 use rules::Rule;
 
 // One call. A file is lent.
@@ -15,8 +16,42 @@ pub enum Call<'a> {
     Add(usize, usize),
     Strike(usize, usize),
     Load(&'a [u8]),
-    Judge,
-    Search,
+}
+
+// The slice for the answers is shorter than the list of calls.
+#[derive(Clone, Copy, PartialEq, Eq, Debug)]
+pub struct TooShort {
+    // How many answers there are.
+    pub needed: usize,
+}
+
+impl TooShort {
+    // The five numbers of this refusal.
+    pub fn answer(self) -> Answer
+        ensures { result ≡ numbers 22 0 self.needed 0 0 }
+    {
+        Answer::refusal(22, 0, self.needed, 0)
+    }
+}
+
+// The five numbers of ADD or STRIKE.
+fn change_answer(res: Result<bool, PairRefusal>) -> Answer
+    ensures { result ≡ change_numbers res }
+{
+    match res {
+        Ok(stood) => Answer::success(if stood { 1 } else { 0 }, 0),
+        Err(refusal) => refusal.answer(0),
+    }
+}
+
+// The five numbers of LOAD.
+fn load_answer(res: Result<usize, LoadRefusal>) -> Answer
+    ensures { result ≡ load_numbers res }
+{
+    match res {
+        Ok(count) => Answer::success(count, 0),
+        Err(refusal) => refusal.answer(),
+    }
 }
 
 impl<A: Plan, B: Plan, R: Rule> Comparison<A, B, R> {
@@ -31,8 +66,6 @@ impl<A: Plan, B: Plan, R: Rule> Comparison<A, B, R> {
             Call::Add(s, t) => change_answer(self.add(*s, *t)),
             Call::Strike(s, t) => change_answer(self.strike(*s, *t)),
             Call::Load(file) => load_answer(self.load(file)),
-            Call::Judge => verdict_answer(self.judge()),
-            Call::Search => found_answer(self.find_largest()),
         }
     }
 
@@ -41,7 +74,6 @@ impl<A: Plan, B: Plan, R: Rule> Comparison<A, B, R> {
     pub fn run(&mut self, calls: &[Call<'_>], answers: &mut [Answer]) -> Result<(), TooShort>
         requires { Consistent (setting_of A.meaning B.meaning R.says self.old) (standing self.old) }
         ensures ran { MatchResult result (λ _. Ran (setting_of A.meaning B.meaning R.says self.old) (standing self.old) calls.now answers.old answers.new (standing self.new)) (λ e. NotRun (standing self.old) calls.now answers.old answers.new (standing self.new) e.needed) }
-        ensures promise { Promise (setting_of A.meaning B.meaning R.says self.old) }
         ensures only { OneHistory (setting_of A.meaning B.meaning R.says self.old) }
         ensures same { SameSetting self.old self.new }
         ensures consistent { Consistent (setting_of A.meaning B.meaning R.says self.new) (standing self.new) }

@@ -6,9 +6,9 @@ ghost use Rattle.comparison.specs.Settings.{setting_of, standing, Consistent, Sa
 ghost use Rattle.comparison.specs.Calls.{pair_refused, change_result, after_add, after_strike};
 
 use crate::Comparison;
-use crate::refusal::PairRefusal;
+use crate::refusal::{PairRefusal, Side};
 use pairs::PairTable;
-use plan::{Plan, Side};
+use plan::Plan;
 use rules::Rule;
 use vet::Vetted;
 

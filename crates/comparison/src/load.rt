@@ -1,5 +1,5 @@
 // Loading the pairs of a pair file, all or none.
-ghost use Rattle.std.specs.Prelude.{◌≡◌, ℕ, ◌<◌, MatchOption};
+ghost use Rattle.std.specs.Prelude.{◌≡◌, ◌<◌, MatchOption};
 ghost use Rattle.pairs.specs.Pairs.{kept_pairs};
 ghost use Rattle.pairs.specs.PairFile.{HeaderOf, pairs_in, count_in};
 ghost use Rattle.comparison.specs.Settings.{setting_of, standing, Consistent, SameSetting};
@@ -41,7 +41,7 @@ impl<A: Plan, B: Plan, R: Rule> Comparison<A, B, R> {
     }
 
     // Lets just these pairs stand.
-    pub(crate) fn replace(&mut self, pairs: PairTable)
+    fn replace(&mut self, pairs: PairTable)
         ensures pairs { standing self.new ≡ kept_pairs pairs }
         ensures same { SameSetting self.old self.new }
     {

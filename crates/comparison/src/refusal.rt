@@ -1,12 +1,17 @@
 // Why a call on a comparison is refused.
-ghost use Rattle.std.specs.Prelude.{◌≡◌, ℕ};
-ghost use Rattle.comparison.specs.Calls.{pair_numbers, load_refusal_numbers};
-ghost use Rattle.comparison.specs.Sealing.{write_refusal_numbers};
+ghost use Rattle.std.specs.Prelude.{◌≡◌};
+ghost use Rattle.comparison.specs.Calls.{side_number, pair_numbers, load_refusal_numbers};
 ghost use Rattle.comparison.specs.declared.refusal.LoadRefusal.TheVariants.{BadFile};
-ghost use Rattle.comparison.specs.declared.refusal.WriteRefusal.TheVariants.{ShortBuffer};
 
 use layout::FileRefusal;
-use plan::{Answer, Side, TooShort};
+use plan::Answer;
+
+// Which of the two plans.
+#[derive(Clone, Copy, PartialEq, Eq, Debug)]
+pub enum Side {
+    First,
+    Second,
+}
 
 // Why a pair is refused.
 #[derive(Clone, Copy, PartialEq, Eq, Debug)]
@@ -26,13 +31,16 @@ pub enum LoadRefusal {
     BadRow(usize, PairRefusal),
 }
 
-// Why a pair file is not written.
-#[derive(Clone, Copy)]
-pub enum WriteRefusal {
-    // The verdict is not acceptance.
-    NotAccepted,
-    // The buffer is shorter than the file.
-    ShortBuffer(TooShort),
+impl Side {
+    // 1 or 2.
+    pub fn number(self) -> usize
+        ensures { result ≡ side_number self }
+    {
+        match self {
+            Side::First => 1,
+            Side::Second => 2,
+        }
+    }
 }
 
 impl PairRefusal {
@@ -60,30 +68,10 @@ impl LoadRefusal {
     }
 }
 
-impl WriteRefusal {
-    // The five numbers of this refusal.
-    pub fn answer(self) -> Answer
-        ensures { result ≡ write_refusal_numbers self }
-    {
-        match self {
-            WriteRefusal::NotAccepted => Answer::refusal(21, 0, 0, 0),
-            WriteRefusal::ShortBuffer(short) => short.answer(),
-        }
-    }
-}
-
 impl From<FileRefusal> for LoadRefusal {
     ghost from_gives = { λ e r. r ≡ BadFile e };
 
     fn from(refusal: FileRefusal) -> LoadRefusal {
         LoadRefusal::BadFile(refusal)
-    }
-}
-
-impl From<TooShort> for WriteRefusal {
-    ghost from_gives = { λ e r. r ≡ ShortBuffer e };
-
-    fn from(short: TooShort) -> WriteRefusal {
-        WriteRefusal::ShortBuffer(short)
     }
 }

@@ -1,48 +1,43 @@
 -- From commands to calls and lines, one command more at the end.
-use Rattle.std.proofs.Common.{◌≡◌, ℕ, suc, ◌+◌, ◌<◌, ◌≤◌, Bool, true, false, cond, ◌⊎◌, List, [], ◌∷◌, ◌++◌, length, get_or, take, drop, set, sym, refl, ap, ◌∙◌, subst, ⊎_elim, append_assoc, append-nil, add-zero, zero-add, arith}
+use Rattle.std.proofs.Common.{◌≡◌, ℕ, ◌+◌, ◌<◌, Bool, true, false, cond, List, [], ◌∷◌, ◌++◌, length, get_or, take, drop, set, sym, refl, ap, ◌∙◌, subst, append_assoc, add-zero, zero-add, arith}
 use Rattle.std.proofs.lemmas.List.{get_or-drop, take_more, take_more_set}
 use Rattle.plan.specs.declared.answer.Answer.{Answer}
 use Rattle.comparison.specs.declared.calls.Call.{Call}
 use Rattle.comparison.specs.Histories.{no_answer}
 use Rattle.commands.specs.declared.command.Command.{Command}
-use Rattle.commands.specs.declared.command.Command.TheVariants.{Add, Strike, Load, Judge, Search, Unknown}
+use Rattle.commands.specs.declared.command.Command.TheVariants.{Add, Strike, Load, Unknown}
 use Rattle.session.specs.declared.line.Line.{Line}
-use Rattle.session.specs.Session.{Makes, MakesFirst, MakeCalls, line_of, is_call, calls_in, command_lines}
+use Rattle.session.specs.Session.{Makes, MakeCalls, line_of, is_call, calls_in, command_lines}
 
 module _ (file : List ℕ) where
-  -- a command that makes a call is one that does
-  makes_call : (command : Command) (call : Call) → Makes file command call → is_call command ≡ true
-  makes_call (Add s t) call makes = refl
-  makes_call (Strike s t) call makes = refl
-  makes_call Load call makes = refl
-  makes_call Judge call makes = refl
-  makes_call Search call makes = refl
-  makes_call Unknown call makes = absurd makes
-
-  -- what follows the first call may have more behind it
-  follow_more : (v : Bool) (makes : Call → Type 0) (follow more : List Call → Type 0) (behind : List Call) → ((xs : List Call) → follow xs → more (xs ++ behind))
-      → (calls : List Call) → MakesFirst v makes follow calls → MakesFirst v makes more (calls ++ behind)
-  follow_more false makes follow more behind f calls made = f calls made
-  follow_more true makes follow more behind f [] made = absurd made
-  follow_more true makes follow more behind f (x ∷ calls) made = (made.0, f calls made.1)
+  one_call : (command : Command) (call : Call) → Makes file command call → MakeCalls file (command ∷ []) (call ∷ [])
+  one_call (Add s t) call makes = (makes, refl)
+  one_call (Strike s t) call makes = (makes, refl)
+  one_call Load call makes = (makes, refl)
+  one_call Unknown call makes = absurd makes
 
   -- one command more that makes a call
-  make_call : (commands : List Command) (calls : List Call) (command : Command) (call : Call) → MakeCalls file commands calls → Makes file command call
+  pub make_call : (commands : List Command) (calls : List Call) (command : Command) (call : Call) → MakeCalls file commands calls → Makes file command call
       → MakeCalls file (commands ++ command ∷ []) (calls ++ call ∷ [])
-  make_call [] calls command call made makes =
-      subst (λ xs. MakeCalls file (command ∷ []) (xs ++ call ∷ [])) (sym made)
-      (subst (λ v. MakesFirst v (Makes file command) (MakeCalls file []) (call ∷ [])) (sym (makes_call command call makes)) (makes, refl))
-  make_call (d ∷ commands) calls command call made makes =
-      follow_more (is_call d) (Makes file d) (MakeCalls file commands) (MakeCalls file (commands ++ command ∷ [])) (call ∷ [])
-      (λ xs made'. make_call commands xs command call made' makes) calls made
+  make_call [] calls command call made makes = subst (λ xs. MakeCalls file (command ∷ []) (xs ++ call ∷ [])) (sym made) (one_call command call makes)
+  make_call (Unknown ∷ commands) calls command call made makes = make_call commands calls command call made makes
+  make_call (Add s t ∷ commands) [] command call made makes = absurd made
+  make_call (Add s t ∷ commands) (x ∷ calls) command call made makes = (made.0, make_call commands calls command call made.1 makes)
+  make_call (Strike s t ∷ commands) [] command call made makes = absurd made
+  make_call (Strike s t ∷ commands) (x ∷ calls) command call made makes = (made.0, make_call commands calls command call made.1 makes)
+  make_call (Load ∷ commands) [] command call made makes = absurd made
+  make_call (Load ∷ commands) (x ∷ calls) command call made makes = (made.0, make_call commands calls command call made.1 makes)
 
   -- one command more that makes none
-  make_none : (commands : List Command) (calls : List Call) → MakeCalls file commands calls → MakeCalls file (commands ++ Unknown ∷ []) calls
+  pub make_none : (commands : List Command) (calls : List Call) → MakeCalls file commands calls → MakeCalls file (commands ++ Unknown ∷ []) calls
   make_none [] calls made = made
-  make_none (d ∷ commands) calls made =
-      subst (MakeCalls file (d ∷ (commands ++ Unknown ∷ []))) (append-nil calls)
-      (follow_more (is_call d) (Makes file d) (MakeCalls file commands) (MakeCalls file (commands ++ Unknown ∷ [])) []
-      (λ xs made'. subst (MakeCalls file (commands ++ Unknown ∷ [])) (sym (append-nil xs)) (make_none commands xs made')) calls made)
+  make_none (Unknown ∷ commands) calls made = make_none commands calls made
+  make_none (Add s t ∷ commands) [] made = absurd made
+  make_none (Add s t ∷ commands) (x ∷ calls) made = (made.0, make_none commands calls made.1)
+  make_none (Strike s t ∷ commands) [] made = absurd made
+  make_none (Strike s t ∷ commands) (x ∷ calls) made = (made.0, make_none commands calls made.1)
+  make_none (Load ∷ commands) [] made = absurd made
+  make_none (Load ∷ commands) (x ∷ calls) made = (made.0, make_none commands calls made.1)
 
   -- the same at a loop's step
   pub make_call_more : (commands : List Command) (calls : List Call) (i n : ℕ) (call : Call) (d : Command) → i < length commands → n < length calls

@@ -1,5 +1,5 @@
 -- The whole of what is printed.
-use Rattle.std.proofs.Common.{◌≡◌, ℕ, suc, ◌+◌, ◌<◌, ◌≤◌, Bool, true, false, cond, ◌&&◌, eqb, List, [], ◌∷◌, ◌++◌, map, length, take, set, MatchBool, sym, refl, ap, ◌∙◌, subst, arith}
+use Rattle.std.proofs.Common.{◌≡◌, ℕ, suc, ◌+◌, ◌<◌, ◌≤◌, Bool, true, false, cond, ◌&&◌, eqb, List, [], ◌∷◌, ◌++◌, length, take, set, MatchBool, sym, refl, ap, ◌∙◌, subst, arith}
 use Rattle.std.proofs.lemmas.List.{take_more_set, length-map}
 use Rattle.plan.specs.declared.answer.Answer.{Answer}
 use Rattle.plan.specs.Model.{Model}
@@ -7,12 +7,11 @@ use Rattle.layout.specs.Refusals.{refusal_numbers}
 use Rattle.layout.specs.declared.refusal.FileRefusal.{FileRefusal}
 use Rattle.layout.specs.declared.refusal.FileRefusal.TheVariants.{Length, Sign, Counts, Start, Parts, Row, Step}
 use Rattle.drawing.specs.Layout.{drawing_answer, drawing_plan}
-use Rattle.table.specs.Layout.{table_answer, table_plan}
 use Rattle.commands.specs.declared.command.Command.{Command}
 use Rattle.commands.specs.Lines.{lines_of, in_front}
 use Rattle.commands.specs.Commands.{command_of, commands_of}
 use Rattle.session.specs.declared.line.Line.{Line}
-use Rattle.session.specs.Session.{line, succeeds, gauge_answer, opens, opening_lines, second_plan, Answered, answer_lines, Prints}
+use Rattle.session.specs.Session.{line, succeeds, opens, opening_lines, second_plan, Answered, command_lines, Prints}
 use Rattle.session.specs.Running.{table_lines, tables_open, AllPrinted, RestPrinted, has_room}
 use Rattle.std.proofs.lemmas.Bool.{and_from, le-leb}
 use Rattle.session.proofs.Rest.{shut_when}
@@ -66,8 +65,8 @@ module _ (drawing table gauge file input : List ℕ) (lines : List Line) (room :
       let all : take 1 (set lines 0 (line 68 answer)) ≡ opening_lines drawing table gauge =
       one_line ∙ ap (λ v. line 68 (drawing_answer drawing) ∷ cond v (table_lines table gauge) []) (sym fails) in
       shut_when (opens drawing table gauge)
-      ((answers : List Answer) × (last : Answer) × Answered (drawing_plan drawing) (second_plan table gauge) file (commands_of input) answers last
-      × (take 1 (set lines 0 (line 68 answer)) ≡ opening_lines drawing table gauge ++ answer_lines (commands_of input) answers last))
+      ((answers : List Answer) × Answered (drawing_plan drawing) (second_plan table gauge) file (commands_of input) answers
+      × (take 1 (set lines 0 (line 68 answer)) ≡ opening_lines drawing table gauge ++ command_lines (commands_of input) answers))
       (take 1 (set lines 0 (line 68 answer)) ≡ opening_lines drawing table gauge)
       (first_fails (succeeds (drawing_answer drawing)) _ _ fails) all
 
@@ -81,24 +80,23 @@ module _ (drawing table gauge file input : List ℕ) (lines : List Line) (room :
       when_like (tables_open table gauge) (opens drawing table gauge)
       (AllPrinted m table gauge file commands (take 1 (set lines 0 (line 68 answer))) after)
       (after ≡ take 1 (set lines 0 (line 68 answer)) ++ table_lines table gauge)
-      ((answers : List Answer) × (last : Answer) × Answered (drawing_plan drawing) (second_plan table gauge) file (commands_of input) answers last
-      × (after ≡ opening_lines drawing table gauge ++ answer_lines (commands_of input) answers last))
+      ((answers : List Answer) × Answered (drawing_plan drawing) (second_plan table gauge) file (commands_of input) answers
+      × (after ≡ opening_lines drawing table gauge ++ command_lines (commands_of input) answers))
       (after ≡ opening_lines drawing table gauge)
       (first_passes (succeeds (drawing_answer drawing)) _ _ passes)
       (λ h. (
         h.0,
-        h.1,
-        subst (λ x. Answered x (second_plan table gauge) file (commands_of input) h.0 h.1) meaning-is
-            (subst (λ cs. Answered m (second_plan table gauge) file cs h.0 h.1) commands-is h.2),
-        h.3
-            ∙ ap (λ xs. xs ++ (table_lines table gauge ++ answer_lines commands h.0 h.1)) one_line
-            ∙ ap (λ xs. xs ++ answer_lines commands h.0 h.1) opening
-            ∙ ap (λ cs. opening_lines drawing table gauge ++ answer_lines cs h.0 h.1) commands-is,
+        subst (λ x. Answered x (second_plan table gauge) file (commands_of input) h.0) meaning-is
+            (subst (λ cs. Answered m (second_plan table gauge) file cs h.0) commands-is h.1),
+        h.2
+            ∙ ap (λ xs. xs ++ (table_lines table gauge ++ command_lines commands h.0)) one_line
+            ∙ ap (λ xs. xs ++ command_lines commands h.0) opening
+            ∙ ap (λ cs. opening_lines drawing table gauge ++ command_lines cs h.0) commands-is,
       ))
       (λ h. h ∙ ap (λ xs. xs ++ table_lines table gauge) one_line ∙ opening)
       rest
 
 -- there is room
-pub room_there : (n commands calls answers lines : ℕ) → n ≤ commands → n ≤ calls → n ≤ answers → n + 4 ≤ lines → has_room n commands calls answers lines ≡ true
+pub room_there : (n commands calls answers lines : ℕ) → n ≤ commands → n ≤ calls → n ≤ answers → n + 3 ≤ lines → has_room n commands calls answers lines ≡ true
 room_there n commands calls answers lines a b c d =
-    and_from _ _ (and_from _ _ (and_from _ _ (le-leb n commands a) (le-leb n calls b)) (le-leb n answers c)) (le-leb (n + 4) lines d)
+    and_from _ _ (and_from _ _ (and_from _ _ (le-leb n commands a) (le-leb n calls b)) (le-leb n answers c)) (le-leb (n + 3) lines d)

@@ -1,5 +1,5 @@
 -- What the program prints: a list of lines, from the bytes that it reads.
-use Rattle.std.specs.Prelude.{◌≡◌, ℕ, ◌+◌, ◌<◌, Bool, true, false, cond, ◌&&◌, ◌||◌, List, [], ◌∷◌, ◌++◌, length, get_or, drop, MatchBool, Result, ◌==◌, ◌≢◌, slice_index_or}
+use Rattle.std.specs.Prelude.{◌≡◌, ℕ, ◌+◌, Bool, true, false, cond, ◌&&◌, List, [], ◌∷◌, ◌++◌, length, drop, MatchBool, ◌==◌, slice_index_or}
 use Rattle.plan.specs.declared.answer.Answer.{Answer}
 use Rattle.plan.specs.Answers.{numbers, success}
 use Rattle.plan.specs.Model.{Model}
@@ -10,17 +10,12 @@ use Rattle.join.specs.Answers.{join_answer}
 use Rattle.vet.specs.Findings.{Finds}
 use Rattle.rules.specs.Rules.{exact_says}
 use Rattle.pairs.specs.Pairs.{Pairs, no_pairs}
-use Rattle.fitting.specs.declared.misfit.Misfit.{Misfit}
-use Rattle.fitting.specs.Bisimilarity.{Bisimilar, Agree}
-use Rattle.fitting.specs.Judging.{Judges}
-use Rattle.fitting.specs.Numbers.{verdict_numbers}
 use Rattle.comparison.specs.declared.calls.Call.{Call}
-use Rattle.comparison.specs.declared.calls.Call.TheVariants.{Add as AddCall, Strike as StrikeCall, Load as LoadCall, Judge as JudgeCall, Search as SearchCall}
+use Rattle.comparison.specs.declared.calls.Call.TheVariants.{Add as AddCall, Strike as StrikeCall, Load as LoadCall}
 use Rattle.comparison.specs.Settings.{Setting}
 use Rattle.comparison.specs.Histories.{History, no_answer}
-use Rattle.comparison.specs.Promises.{Promise}
 use Rattle.commands.specs.declared.command.Command.{Command}
-use Rattle.commands.specs.declared.command.Command.TheVariants.{Add, Strike, Load, Judge, Search, Unknown}
+use Rattle.commands.specs.declared.command.Command.TheVariants.{Add, Strike, Load, Unknown}
 use Rattle.commands.specs.Commands.{commands_of}
 use Rattle.session.specs.declared.line.Line.{Line}
 
@@ -70,31 +65,18 @@ Makes file (Strike s t) call = call ≡ StrikeCall s t
 Makes file Load (LoadCall lent) = lent.now ≡ file
 Makes file Load (AddCall s t) = ⊥
 Makes file Load (StrikeCall s t) = ⊥
-Makes file Load JudgeCall = ⊥
-Makes file Load SearchCall = ⊥
-Makes file Judge call = call ≡ JudgeCall
-Makes file Search call = call ≡ SearchCall
 Makes file Unknown call = ⊥
-
--- does the command make a call
-abbrev pub is_call : Command → Bool
-is_call (Add s t) = true
-is_call (Strike s t) = true
-is_call Load = true
-is_call Judge = true
-is_call Search = true
-is_call Unknown = false
-
--- the first call of the list is made, if one is, and the others follow
-abbrev pub MakesFirst : Bool → (Call → Type 0) → (List Call → Type 0) → List Call → Type 0
-MakesFirst false makes follow calls = follow calls
-MakesFirst true makes follow [] = ⊥
-MakesFirst true makes follow (call ∷ calls) = makes call × follow calls
 
 -- the calls of a list of commands, in their order; a line that is no command makes none
 abbrev pub MakeCalls : List ℕ → List Command → List Call → Type 0
 MakeCalls file [] calls = calls ≡ []
-MakeCalls file (command ∷ commands) calls = MakesFirst (is_call command) (Makes file command) (MakeCalls file commands) calls
+MakeCalls file (Unknown ∷ commands) calls = MakeCalls file commands calls
+MakeCalls file (Add s t ∷ commands) [] = ⊥
+MakeCalls file (Add s t ∷ commands) (call ∷ calls) = Makes file (Add s t) call × MakeCalls file commands calls
+MakeCalls file (Strike s t ∷ commands) [] = ⊥
+MakeCalls file (Strike s t ∷ commands) (call ∷ calls) = Makes file (Strike s t) call × MakeCalls file commands calls
+MakeCalls file (Load ∷ commands) [] = ⊥
+MakeCalls file (Load ∷ commands) (call ∷ calls) = Makes file Load call × MakeCalls file commands calls
 
 -- a line for each command: its letter and its call's answer, or '? 23' where it is none
 abbrev pub unknown_line : Line
@@ -104,11 +86,15 @@ abbrev pub line_of : Command → Answer → Line
 line_of (Add s t) answer = line 97 answer
 line_of (Strike s t) answer = line 115 answer
 line_of Load answer = line 112 answer
-line_of Judge answer = line 106 answer
-line_of Search answer = line 102 answer
 line_of Unknown answer = unknown_line
 
--- how many commands of a list make a call
+-- does the command make a call, and how many of a list do
+abbrev pub is_call : Command → Bool
+is_call (Add s t) = true
+is_call (Strike s t) = true
+is_call Load = true
+is_call Unknown = false
+
 abbrev pub calls_in : List Command → ℕ
 calls_in [] = 0
 calls_in (command ∷ commands) = cond (is_call command) 1 0 + calls_in commands
@@ -119,53 +105,19 @@ command_lines [] answers = []
 command_lines (command ∷ commands) answers =
     line_of command (slice_index_or answers 0 no_answer) ∷ command_lines commands (cond (is_call command) (drop 1 answers) answers)
 
--- The answers to the commands are those of the history of their calls on a new comparison of the two plans, and the last answer is the
--- verdict on the pairs that stand at the end.
-pub record Answered (first second : Model) (file : List ℕ) (commands : List Command) (answers : List Answer) (last : Answer) : Type 0 where
+-- the answers to the commands: those of the history of their calls on a new comparison of the two plans
+pub record Answered (first second : Model) (file : List ℕ) (commands : List Command) (answers : List Answer) : Type 0 where
   pub setting : Setting
   pub compares : Compares first second setting
   pub calls : List Call
   pub made : MakeCalls file commands calls
   pub after : ℕ → Pairs
   pub history : History setting no_pairs calls answers after
-  pub verdict : Result ℕ Misfit
-  pub judged : Judges setting.first setting.second setting.says (after (length calls)) verdict
-  pub last_is : last ≡ verdict_numbers verdict
-  -- what the answers mean, in every history of calls on this comparison, and what acceptance at the end means
-  pub promise : Promise setting
-  pub last_agrees : last.number ≡ 0 → Agree setting.first setting.second setting.says
 
--- a line for each command, and a line E with the verdict
-abbrev pub answer_lines : List Command → List Answer → Answer → List Line
-answer_lines commands answers last = command_lines commands answers ++ line 69 last ∷ []
-
--- What the program prints. Where something was refused, the opening lines; else these, a line for each line of the input, and line E.
+-- What the program prints. Where something was refused, the opening lines; else these, and a line for each line of the input.
 abbrev pub Prints : List ℕ → List ℕ → List ℕ → List ℕ → List ℕ → List Line → Type 0
 Prints drawing table gauge file input lines =
     MatchBool (opens drawing table gauge)
-    ((answers : List Answer) × (last : Answer)
-    × Answered (drawing_plan drawing) (second_plan table gauge) file (commands_of input) answers last
-    × (lines ≡ opening_lines drawing table gauge ++ answer_lines (commands_of input) answers last))
+    ((answers : List Answer) × Answered (drawing_plan drawing) (second_plan table gauge) file (commands_of input) answers
+    × (lines ≡ opening_lines drawing table gauge ++ command_lines (commands_of input) answers))
     (lines ≡ opening_lines drawing table gauge)
-
--- The bytes decide what is printed: no two lists of lines are possible.
-abbrev pub OnePrint : List ℕ → List ℕ → List ℕ → List ℕ → List ℕ → Type 0
-OnePrint drawing table gauge file input =
-    (lines others : List Line) → Prints drawing table gauge file input lines → Prints drawing table gauge file input others → lines ≡ others
-
--- a line that tells a verdict: j or E
-abbrev pub tells_verdict : Line → Bool
-tells_verdict l = l.letter == 106 || l.letter == 69
-
--- What a printed line means of the two plans: where it tells acceptance, they agree at every closing for ever; where it is a search's that
--- no set fits, their starts are not bisimilar to depth 16,384.
-pub record LineMeans (first second : Model) (l : Line) : Type 0 where
-  pub accepted : tells_verdict l ≡ true → l.answer.number ≡ 0 → Agree first second exact_says
-  pub no_fit : l.letter ≡ 102 → l.answer.number ≡ 20 → Bisimilar first second exact_says 16384 first.start second.start → ⊥
-
--- Each printed line means what it should, and so no list of lines tells both acceptance and that no set fits.
-pub record LinesMean (first second : Model) (lines : List Line) : Type 0 where
-  pub each : (i : ℕ) → i < length lines → LineMeans first second (slice_index_or lines i unknown_line)
-  pub not_both : (i j : ℕ) → i < length lines → j < length lines
-      → tells_verdict (slice_index_or lines i unknown_line) ≡ true → (get_or lines i unknown_line).answer.number ≡ 0
-      → (get_or lines j unknown_line).letter ≡ 102 → (get_or lines j unknown_line).answer.number ≢ 20

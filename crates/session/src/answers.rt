@@ -1,12 +1,12 @@
 // The commands of a session: from commands to calls, and from the calls' answers to lines.
-ghost use Rattle.std.specs.Prelude.{◌≡◌, ℕ, ◌+◌, ◌≤◌, ◌++◌, length, take, MatchOption, slice_index_or};
+ghost use Rattle.std.specs.Prelude.{◌≡◌, ◌+◌, ◌≤◌, ◌++◌, length, take, MatchOption, slice_index_or};
 ghost use Rattle.comparison.specs.Histories.{no_answer};
 ghost use Rattle.commands.specs.declared.command.Command.TheVariants.{Unknown};
 ghost use Rattle.session.specs.Session.{Makes, MakeCalls, Answered, command_lines, line_of, is_call};
 
 use crate::line::Line;
 use commands::Command;
-use comparison::{Call, Comparison, verdict_answer};
+use comparison::{Call, Comparison};
 use plan::{Answer, Plan};
 use rules::Exact;
 use vet::Vetted;
@@ -19,8 +19,6 @@ fn call_of<'a>(command: Command, file: &'a [u8]) -> Option<Call<'a>>
         Command::Add(s, t) => Some(Call::Add(s, t)),
         Command::Strike(s, t) => Some(Call::Strike(s, t)),
         Command::Load => Some(Call::Load(file)),
-        Command::Judge => Some(Call::Judge),
-        Command::Search => Some(Call::Search),
         Command::Unknown => None,
     }
 }
@@ -41,8 +39,7 @@ fn make_calls<'a>(commands: &[Command], file: &'a [u8], calls: &mut [Call<'a>]) 
     n
 }
 
-// Runs the commands on a new comparison of the two plans, under Exact: one call with the whole list. Then seals it, and gives the
-// verdict.
+// Runs the commands on a new comparison of the two plans, under Exact: one call with the whole list.
 pub(crate) fn answer_commands<'a, A: Plan + Drop, B: Plan + Drop>(
     first: A,
     second: B,
@@ -50,14 +47,13 @@ pub(crate) fn answer_commands<'a, A: Plan + Drop, B: Plan + Drop>(
     commands: &[Command],
     calls: &mut [Call<'a>],
     answers: &mut [Answer],
-) -> Answer
+)
     requires { (length commands.now ≤ length calls.old) × (length commands.now ≤ length answers.old) }
-    ensures { Answered (A.meaning first) (B.meaning second) file.now commands.now answers.new result }
+    ensures { Answered (A.meaning first) (B.meaning second) file.now commands.now answers.new }
 {
     let mut comparison = Comparison::open(Vetted::vet(first), Vetted::vet(second), Exact);
     let n = make_calls(commands, file, calls);
     let _ = comparison.run(&calls[0..n], answers);
-    verdict_answer(comparison.seal().verdict())
 }
 
 // The answer at this place.
@@ -95,14 +91,6 @@ fn command_line(command: Command, answer: Answer) -> Line
         },
         Command::Load => Line {
             letter: 'p',
-            answer,
-        },
-        Command::Judge => Line {
-            letter: 'j',
-            answer,
-        },
-        Command::Search => Line {
-            letter: 'f',
             answer,
         },
         Command::Unknown => Line {

@@ -1,7 +1,6 @@
 // A session: from the bytes that are read to the lines that are printed.
-ghost use Rattle.std.specs.Prelude.{◌≡◌, ℕ, ◌+◌, ◌<◌, ◌≤◌, [], ◌∷◌, ◌++◌, length, take, MatchOption};
+ghost use Rattle.std.specs.Prelude.{◌≡◌, ◌+◌, ◌≤◌, length, take, MatchOption};
 ghost use Rattle.drawing.specs.contracts.drawing.ask.DrawingPlan.TheImpl.{ghosts};
-ghost use Rattle.session.specs.Session.{line};
 ghost use Rattle.session.specs.Running.{Printed, NoRoom, RestPrinted, has_room};
 
 use crate::answers::{answer_commands, write_lines};
@@ -13,20 +12,7 @@ use drawing::Drawing;
 use layout::opening_answer;
 use plan::Answer;
 
-// Writes the line E with this verdict behind the first `at` lines. Gives how many lines there are then.
-fn write_verdict(verdict: Answer, lines: &mut [Line], at: usize) -> usize
-    requires { at < length lines.old }
-    ensures count { result ≡ at + 1 }
-    ensures written { take result lines.new ≡ take at lines.old ++ line 69 verdict ∷ [] }
-{
-    lines[at] = Line {
-        letter: 'E',
-        answer: verdict,
-    };
-    at + 1
-}
-
-// The lines L and G, those of the commands, and line E, behind the line D of this drawing. Gives how many lines there are in all.
+// The lines L and G, and those of the commands, behind the line D of this drawing. Gives how many lines there are in all.
 fn finish<'a>(
     drawing: Drawing,
     table: &[u8],
@@ -37,8 +23,8 @@ fn finish<'a>(
     answers: &mut [Answer],
     lines: &mut [Line],
 ) -> usize
-    requires { (length commands.now ≤ length calls.old) × ((length commands.now ≤ length answers.old) × (4 + length commands.now ≤ length lines.old)) }
-    ensures within { result ≤ 4 + length commands.now }
+    requires { (length commands.now ≤ length calls.old) × ((length commands.now ≤ length answers.old) × (3 + length commands.now ≤ length lines.old)) }
+    ensures within { result ≤ 3 + length commands.now }
     ensures rest { RestPrinted (ghosts.meaning drawing) table.now gauge.now pairs.now commands.now (take 1 lines.old) (take result lines.new) }
 {
     match open_second(table, gauge) {
@@ -69,9 +55,9 @@ fn finish<'a>(
                 letter: 'G',
                 answer: Answer::success(0, 0),
             };
-            let verdict = answer_commands(drawing, plan, pairs, commands, calls, answers);
+            answer_commands(drawing, plan, pairs, commands, calls, answers);
             write_lines(commands, answers, lines, 3);
-            write_verdict(verdict, lines, 3 + commands.len())
+            3 + commands.len()
         }
         Second::Both(plan, answer, last) => {
             lines[1] = Line {
@@ -82,9 +68,9 @@ fn finish<'a>(
                 letter: 'G',
                 answer: last,
             };
-            let verdict = answer_commands(drawing, plan, pairs, commands, calls, answers);
+            answer_commands(drawing, plan, pairs, commands, calls, answers);
             write_lines(commands, answers, lines, 3);
-            write_verdict(verdict, lines, 3 + commands.len())
+            3 + commands.len()
         }
     }
 }
@@ -101,8 +87,8 @@ fn first_commands(commands: &[Command], count: usize) -> &[Command]
 }
 
 // A session, from the bytes that are read to the lines that are printed: the answers to the folder's files, up to the first
-// refusal, or else a line for each line of the input and the verdict at the end. Gives how many lines there are. None, and nothing
-// written, where a slice is shorter than the input, or the lines are not four more.
+// refusal, and then a line for each line of the input. Gives how many lines there are. None, and nothing written, where a slice is
+// shorter than the input, or the lines are not three more.
 pub fn session<'a>(
     drawing: &[u8],
     table: &[u8],
@@ -114,14 +100,14 @@ pub fn session<'a>(
     answers: &mut [Answer],
     lines: &mut [Line],
 ) -> Option<usize>
-    ensures { MatchOption result (NoRoom (has_room (length input.now) (length commands.old) (length calls.old) (length answers.old) (length lines.old)) commands.old commands.new calls.old calls.new answers.old answers.new lines.old lines.new) (Printed drawing.now table.now gauge.now pairs.now input.now (has_room (length input.now) (length commands.old) (length calls.old) (length answers.old) (length lines.old)) lines.new) }
+    ensures { MatchOption result (NoRoom (has_room (length input.now) (length commands.old) (length calls.old) (length answers.old) (length lines.old)) commands.old commands.new answers.old answers.new lines.old lines.new) (Printed drawing.now table.now gauge.now pairs.now input.now (has_room (length input.now) (length commands.old) (length calls.old) (length answers.old) (length lines.old)) lines.new) }
 {
     let most = input.len();
     if commands.len() < most
         || calls.len() < most
         || answers.len() < most
-        || lines.len() < 4
-        || lines.len() - 4 < most
+        || lines.len() < 3
+        || lines.len() - 3 < most
     {
         return None;
     }

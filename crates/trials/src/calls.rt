@@ -9,9 +9,9 @@ use table::Table;
 use vet::Vetted;
 
 // The last code that is no fault, and the first that is one.
-pub const NO_FAULT: u32 = 4_294_967_039;
+const NO_FAULT: u32 = 4_294_967_039;
 
-pub const FAULT: u32 = 4_294_967_040;
+const FAULT: u32 = 4_294_967_040;
 
 fn ask<R: Rule>(
     rt: &HostRuntime,

@@ -8,12 +8,6 @@ fn push_word(bytes: &mut Vec<u8>, x: usize) -> Result<(), AllocError> {
     Ok(())
 }
 
-// A long, the low byte first.
-fn push_long(bytes: &mut Vec<u8>, x: u32) -> Result<(), AllocError> {
-    push_word(bytes, x as usize % 65_536)?;
-    push_word(bytes, x as usize / 65_536)
-}
-
 fn push_zeros(bytes: &mut Vec<u8>, count: usize) -> Result<(), AllocError> {
     for _ in 0..count {
         bytes.push(0)?;
@@ -112,81 +106,4 @@ pub(crate) fn chain(heap: Global) -> Result<Vec<u8>, AllocError> {
         rows.push(TableRow(2, (i + 1) % 128, 0))?;
     }
     table_of(heap, rows.as_slice())
-}
-
-// A state of a sketch. A marked one has codes from channel 0 on, and code 0 on the channels that are not listed.
-#[derive(Clone, Copy)]
-pub enum State {
-    // Codes and steps.
-    Marked(&'static [u32], &'static [usize]),
-    // Steps.
-    Unmarked(&'static [usize]),
-}
-
-impl State {
-    fn is_marked(&self) -> bool {
-        matches!(self, State::Marked(_, _))
-    }
-
-    fn code(&self, channel: usize) -> u32 {
-        match self {
-            State::Marked(codes, _) => codes.get(channel).copied().unwrap_or(0),
-            State::Unmarked(_) => 0,
-        }
-    }
-
-    fn steps(&self) -> &'static [usize] {
-        match self {
-            State::Marked(_, steps) => steps,
-            State::Unmarked(steps) => steps,
-        }
-    }
-}
-
-// What a drawing is to have.
-#[derive(Clone, Copy)]
-pub struct Sketch {
-    pub channels: usize,
-    pub start: usize,
-    pub states: &'static [State],
-}
-
-fn push_sketched_states(bytes: &mut Vec<u8>, sketch: &Sketch) -> Result<(), AllocError> {
-    for state in sketch.states {
-        push_word(bytes, if state.is_marked() { 1 } else { 0 })?;
-        for channel in 0..sketch.channels {
-            push_long(bytes, state.code(channel))?;
-        }
-    }
-    Ok(())
-}
-
-fn push_sketched_steps(bytes: &mut Vec<u8>, sketch: &Sketch) -> Result<(), AllocError> {
-    for (from, state) in sketch.states.iter().enumerate() {
-        for to in state.steps() {
-            push_word(bytes, from)?;
-            push_word(bytes, *to)?;
-        }
-    }
-    Ok(())
-}
-
-// The drawing of a sketch. The parts touch, and the file ends with them.
-pub(crate) fn drawing_of(heap: Global, sketch: &Sketch) -> Result<Vec<u8>, AllocError> {
-    let mut states = Vec::new(heap);
-    push_sketched_states(&mut states, sketch)?;
-    let mut steps = Vec::new(heap);
-    push_sketched_steps(&mut steps, sketch)?;
-    let mut bytes = Vec::new(heap);
-    bytes.push(0x44)?;
-    bytes.push(0x50)?;
-    push_word(&mut bytes, sketch.states.len())?;
-    push_word(&mut bytes, steps.len() / 4)?;
-    push_word(&mut bytes, sketch.channels)?;
-    push_word(&mut bytes, sketch.start)?;
-    push_word(&mut bytes, 14)?;
-    push_word(&mut bytes, states.len().wrapping_add(14))?;
-    bytes.extend_from_slice(&states)?;
-    bytes.extend_from_slice(&steps)?;
-    Ok(bytes)
 }

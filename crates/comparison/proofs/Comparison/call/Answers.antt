@@ -1,4 +1,4 @@
-use Rattle.std.proofs.Common.{◌≡◌, sym, ap, ◌∙◌, subst}
+use Rattle.std.proofs.Common.{sym, ◌∙◌, subst}
 use Rattle.comparison.specs.Settings.{Setting, setting_of, standing}
 use Rattle.comparison.specs.Histories.{Does}
 use Rattle.comparison.proofs.Comparison.call.Goals as goal

@@ -1,7 +1,6 @@
-use Rattle.std.proofs.Common.{◌≡◌, eqb, sym, refl, ap, ◌∙◌, subst}
+use Rattle.std.proofs.Common.{eqb, sym, refl, ap, ◌∙◌, subst}
 use Rattle.plan.specs.Answers.{success}
-use Rattle.comparison.specs.Settings.{Setting, setting_of, standing, Consistent}
-use Rattle.fitting.specs.Bisimilarity.{OnlyMarked}
+use Rattle.comparison.specs.Settings.{Setting, setting_of, standing, OnlyMarked, Consistent}
 use Rattle.comparison.proofs.Lists.{setting_stays}
 use Rattle.comparison.proofs.Loads.{load_accepted, load_refused, rows_fit_table, rows_marked, kept_after, loaded_after, refused_number}
 use Rattle.comparison.proofs.Comparison.load.Goals as goal
@@ -46,6 +45,6 @@ returns g c =
           (record {
             first_found = c.requires.first_found;
             second_found = c.requires.second_found;
-            only_marked = subst (OnlyMarked setting.first setting.second) (sym now-stand) (rows_marked setting b _ c.in_default.ensures);
+            only_marked = subst (OnlyMarked setting) (sym now-stand) (rows_marked setting b _ c.in_default.ensures);
           });
     }

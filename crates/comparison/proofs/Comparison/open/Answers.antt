@@ -1,7 +1,6 @@
 use Rattle.std.proofs.Common.{sym, refl, subst}
 use Rattle.pairs.specs.Pairs.{no_pairs}
-use Rattle.comparison.specs.Settings.{Setting}
-use Rattle.fitting.specs.Bisimilarity.{OnlyMarked}
+use Rattle.comparison.specs.Settings.{Setting, OnlyMarked}
 use Rattle.comparison.proofs.Changes.{marked_none}
 use Rattle.comparison.proofs.Comparison.open.Goals as goal
 
@@ -20,6 +19,6 @@ returns g c =
       consistent = record {
         first_found = c.requires.0;
         second_found = c.requires.1;
-        only_marked = subst (OnlyMarked setting.first setting.second) (sym c.nothing_stands.ensures) (marked_none setting no_pairs);
+        only_marked = subst (OnlyMarked setting) (sym c.nothing_stands.ensures) (marked_none setting no_pairs);
       };
     }

@@ -1,5 +1,5 @@
 use Rattle.std.proofs.Common.{◌≡◌, ◌<◌, None, sym, ap, ◌∙◌, arith, below_more}
-use Rattle.pairs.specs.PairFile.{first_in, second_in}
+use Rattle.pairs.specs.PairFile.{first_in}
 use Rattle.comparison.specs.Settings.{Setting, setting_of}
 use Rattle.comparison.specs.Calls.{pair_refused, row_refused}
 use Rattle.comparison.proofs.Loads.{row_is}

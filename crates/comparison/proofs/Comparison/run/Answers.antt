@@ -1,15 +1,13 @@
-use Rattle.std.proofs.Common.{◌≡◌, get_or, sym, refl, ap, ◌∙◌, subst, arith}
+use Rattle.std.proofs.Common.{get_or, refl, subst, arith}
 use Rattle.comparison.specs.Settings.{Setting, setting_of, standing}
 use Rattle.comparison.specs.Histories.{Does, no_call}
 use Rattle.comparison.proofs.Lists.{setting_stays, same_again, one_history, running_none, running_more, ran_all}
-use Rattle.comparison.proofs.Promising.{promise}
 use Rattle.comparison.proofs.Comparison.run.Goals as goal
 
 pub returns-then-answers-calls : goal.returns-then-answers-calls
 returns-then-answers-calls g c =
     record {
       ran = record { too_few = c.if-answers-calls.true; tells = refl; answers_kept = refl; pairs_kept = refl };
-      promise = promise _ (g.met.A.Plan.lawful c.args.self.now.first.plan) (g.met.B.Plan.lawful c.args.self.now.second.plan);
       only = one_history _;
       same = record { same_first = refl; same_second = refl; same_rule = refl };
       consistent = c.requires;
@@ -36,7 +34,6 @@ returns g c =
     let setting : Setting = setting_of g.A.Plan.meaning g.B.Plan.meaning g.R.Rule.says start in
     record {
       ran = ran_all setting (standing start) c.args.calls.now c.args.answers.now c.loop-i.answers (standing c.loop-i.self) c.loop-i.i (omega arith) c.if-answers-calls.false c.loop-i.invariant.0;
-      promise = promise setting (g.met.A.Plan.lawful start.first.plan) (g.met.B.Plan.lawful start.second.plan);
       only = one_history setting;
       same = c.loop-i.invariant.1;
       consistent = c.loop-i.invariant.2;

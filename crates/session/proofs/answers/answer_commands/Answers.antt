@@ -1,11 +1,7 @@
-use Rattle.std.proofs.Common.{◌≡◌, ◌-◌, ◌≤◌, length, take, sym, refl, ap, ◌∙◌, subst, arith}
+use Rattle.std.proofs.Common.{◌≡◌, ◌-◌, ◌≤◌, length, take, refl, ap, ◌∙◌, subst, arith}
 use Rattle.std.proofs.lemmas.List.{length-take}
 use Rattle.rules.specs.Rules.{exact_says}
-use Rattle.fitting.specs.Judging.{Judges}
-use Rattle.fitting.specs.Numbers.{verdict_numbers}
-use Rattle.comparison.specs.declared.Comparison.{Comparison}
 use Rattle.comparison.specs.Settings.{Setting, setting_of, standing}
-use Rattle.comparison.proofs.Lists.{setting_stays}
 use Rattle.session.specs.Session.{Compares, MakeCalls}
 use Rattle.session.proofs.Answering.{answered_from}
 use Rattle.session.proofs.answers.answer_commands.Goals as goal
@@ -27,13 +23,5 @@ returns g c =
     let places : length calls ≤ length c.args.answers.now =
     simp length-take (omega (arith, c.make_calls-n.ensures.count, c.requires.1)) in
     let made = subst (λ k. MakeCalls c.args.file.now c.args.commands.now (take k c.make_calls-n.new.calls)) whole c.make_calls-n.ensures.made in
-    let ran = c.run.new.self in
-    let stays = setting_stays g.A.Plan.meaning g.B.Plan.meaning (λ _. exact_says) comparison ran c.run.ensures.same in
-    let sealed = c.seal.result in
-    let judged : Judges setting.first setting.second setting.says (standing ran) sealed.verdict =
-    subst (λ (x : Setting). Judges x.first x.second x.says (standing ran) sealed.verdict) stays
-    (subst (λ (x : Comparison _ _ _). Judges (g.A.Plan.meaning x.first.plan) (g.B.Plan.meaning x.second.plan) exact_says (standing x) sealed.verdict) c.seal.ensures.kept
-    c.seal.ensures.settled.verdict_true) in
-    answered_from _ _ c.args.file.now c.args.commands.now setting (standing comparison) (standing ran) calls c.args.answers.now c.run.new.answers sealed.verdict c.verdict_answer.result
-    compares c.open-comparison.ensures.none made places (g.met.A.Plan.lawful comparison.first.plan) (g.met.B.Plan.lawful comparison.second.plan) c.run.ensures.promise
-    judged (c.verdict_answer.ensures ∙ ap verdict_numbers c.verdict.ensures) c.run.result c.run.ensures.ran
+    answered_from _ _ c.args.file.now c.args.commands.now setting (standing comparison) (standing c.run.new.self) calls c.args.answers.now c.run.new.answers c.run.result
+    compares c.open-comparison.ensures.none made places c.run.ensures.ran

@@ -1,4 +1,4 @@
-use Rattle.std.proofs.Common.{◌≡◌, sym, refl, ap, ◌∙◌, subst, arith}
+use Rattle.std.proofs.Common.{ap, ◌∙◌, arith}
 use Rattle.drawing.specs.contracts.drawing.ask.DrawingPlan.TheImpl.{ghosts}
 use Rattle.table.specs.Layout.{table_plan}
 use Rattle.session.specs.Session.{succeeds}
@@ -28,13 +28,13 @@ returns-in-GaugeRefused c =
 pub returns-in-Alone : goal.returns-in-Alone
 returns-in-Alone c =
     let o = c.in-Alone.ensures in
-    let last_is = alone_answer (table_plan c.args.table.now) c.args.gauge.now c.success.result o.2 c.success.ensures in
+    let last-is = alone_answer (table_plan c.args.table.now) c.args.gauge.now c.success.result o.2 c.success.ensures in
     record {
       within = omega arith;
       rest =
           rest_open (ghosts.meaning c.args.drawing) c.args.table.now c.args.gauge.now c.args.pairs.now c.args.commands.now c.args.lines.now (omega arith)
-          c.in-Alone.answer c.success.result _ c.answer_commands-verdict.new.answers c.answer_commands-verdict.result c.write_lines.new.lines c.write_verdict.new.lines c.write_verdict.result o.0 o.1 last_is (ap succeeds c.success.ensures)
-          (o.3 ∙ alone_plan c.args.table.now c.args.gauge.now o.2) c.answer_commands-verdict.ensures c.write_lines.ensures c.write_verdict.ensures.written;
+          c.in-Alone.answer c.success.result _ c.answer_commands.new.answers c.write_lines.new.lines o.0 o.1 last-is (ap succeeds c.success.ensures)
+          (o.3 ∙ alone_plan c.args.table.now c.args.gauge.now o.2) c.answer_commands.ensures c.write_lines.ensures;
     }
 
 pub returns-in-Both : goal.returns-in-Both
@@ -44,6 +44,6 @@ returns-in-Both c =
       within = omega arith;
       rest =
           rest_open (ghosts.meaning c.args.drawing) c.args.table.now c.args.gauge.now c.args.pairs.now c.args.commands.now c.args.lines.now (omega arith)
-          c.in-Both.answer c.in-Both.last _ c.answer_commands-verdict-in-Both.new.answers c.answer_commands-verdict-in-Both.result c.write_lines-in-Both.new.lines c.write_verdict-in-Both.new.lines c.write_verdict-in-Both.result o.0 o.1 o.2 o.3
-          (o.5 ∙ both_plan c.args.table.now c.args.gauge.now o.4) c.answer_commands-verdict-in-Both.ensures c.write_lines-in-Both.ensures c.write_verdict-in-Both.ensures.written;
+          c.in-Both.answer c.in-Both.last _ c.answer_commands-in-Both.new.answers c.write_lines-in-Both.new.lines o.0 o.1 o.2 o.3
+          (o.5 ∙ both_plan c.args.table.now c.args.gauge.now o.4) c.answer_commands-in-Both.ensures c.write_lines-in-Both.ensures;
     }

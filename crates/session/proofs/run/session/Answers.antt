@@ -1,13 +1,10 @@
-use Rattle.std.proofs.Common.{◌≡◌, ◌+◌, ◌≤◌, true, false, length, take, set, sym, refl, ap, ◌∙◌, subst, arith}
+use Rattle.std.proofs.Common.{◌≡◌, true, false, length, ap, ◌∙◌, arith}
 use Rattle.std.proofs.lemmas.List.{length-set}
 use Rattle.std.proofs.lemmas.Result.{IfOk-at_ok}
 use Rattle.layout.specs.Refusals.{opening_numbers}
 use Rattle.drawing.specs.contracts.drawing.ask.DrawingPlan.TheImpl.{ghosts}
 use Rattle.drawing.specs.Layout.{drawing_answer, drawing_plan}
-use Rattle.commands.specs.Commands.{commands_of}
-use Rattle.session.specs.Session.{line, succeeds, Prints}
-use Rattle.session.proofs.Single.{one_print}
-use Rattle.session.proofs.Telling.{prints_mean}
+use Rattle.session.specs.Session.{line, succeeds}
 use Rattle.session.proofs.Whole.{commands_few, refused_fails, room_there, print_refused, print_rest}
 use Rattle.session.proofs.run.session.Goals as goal
 
@@ -32,17 +29,14 @@ returns-in-Ok c =
     let answer = c.opening_answer.result in
     let answer_is : answer ≡ drawing_answer c.args.drawing.now = c.opening_answer.ensures ∙ c.open-opening.ensures.numbers in
     let opened : succeeds answer ≡ true = ap succeeds (c.opening_answer.ensures ∙ ap (opening_numbers ghosts.meaning) c.in-Ok.is) in
-    let prints : Prints c.args.drawing.now c.args.table.now c.args.gauge.now c.args.pairs.now c.args.input.now (take c.finish.result c.finish.new.lines) =
-    print_rest c.args.drawing.now c.args.table.now c.args.gauge.now c.args.pairs.now c.args.input.now lines (omega arith) answer answer_is
-    (ghosts.meaning c.in-Ok.drawing) c.first_commands.result.now _ opened
-    (IfOk-at_ok (λ d. ghosts.meaning d ≡ drawing_plan c.args.drawing.now) c.in-Ok.is c.open-opening.ensures.plan)
-    is c.finish.ensures.rest in
     record {
       enough = room_there (length c.args.input.now) (length c.args.commands.now) (length c.args.calls.now) (length c.args.answers.now) (length c.args.lines.now) (omega arith) (omega arith) (omega arith) (omega arith);
       within = omega (arith, c.finish.ensures.within, few, most, c.finish.auto.lines, length-set lines 0 (line 68 answer));
-      prints = prints;
-      only = one_print c.args.drawing.now c.args.table.now c.args.gauge.now c.args.pairs.now c.args.input.now;
-      means = prints_mean c.args.drawing.now c.args.table.now c.args.gauge.now c.args.pairs.now c.args.input.now _ prints;
+      prints =
+          print_rest c.args.drawing.now c.args.table.now c.args.gauge.now c.args.pairs.now c.args.input.now lines (omega arith) answer answer_is
+          (ghosts.meaning c.in-Ok.drawing) c.first_commands.result.now _ opened
+          (IfOk-at_ok (λ d. ghosts.meaning d ≡ drawing_plan c.args.drawing.now) c.in-Ok.is c.open-opening.ensures.plan)
+          is c.finish.ensures.rest;
     }
 
 pub returns-in-Err : goal.returns-in-Err
@@ -52,12 +46,8 @@ returns-in-Err c =
     let answer_is : answer ≡ drawing_answer c.args.drawing.now = c.opening_answer.ensures ∙ c.open-opening.ensures.numbers in
     let refused : succeeds answer ≡ false =
     ap succeeds (c.opening_answer.ensures ∙ ap (opening_numbers ghosts.meaning) c.in-Err.is) ∙ refused_fails c.in-Err.field-0 in
-    let prints : Prints c.args.drawing.now c.args.table.now c.args.gauge.now c.args.pairs.now c.args.input.now (take 1 (set lines 0 (line 68 answer))) =
-    print_refused c.args.drawing.now c.args.table.now c.args.gauge.now c.args.pairs.now c.args.input.now lines (omega arith) answer answer_is refused in
     record {
       enough = room_there (length c.args.input.now) (length c.args.commands.now) (length c.args.calls.now) (length c.args.answers.now) (length c.args.lines.now) (omega arith) (omega arith) (omega arith) (omega arith);
       within = omega (arith, length-set lines 0 (line 68 answer));
-      prints = prints;
-      only = one_print c.args.drawing.now c.args.table.now c.args.gauge.now c.args.pairs.now c.args.input.now;
-      means = prints_mean c.args.drawing.now c.args.table.now c.args.gauge.now c.args.pairs.now c.args.input.now _ prints;
+      prints = print_refused c.args.drawing.now c.args.table.now c.args.gauge.now c.args.pairs.now c.args.input.now lines (omega arith) answer answer_is refused;
     }
