@@ -64,15 +64,6 @@ pub struct TooShort {
     pub needed: usize,
 }
 
-impl TooShort {
-    // The five numbers of this refusal.
-    pub fn answer(self) -> Answer
-        ensures { result ≡ numbers 22 0 self.needed 0 0 }
-    {
-        Answer::refusal(22, 0, self.needed, 0)
-    }
-}
-
 // The five numbers in decimal, single spaces between.
 impl fmt::Display for Answer {
     ghost output = { λ a. Some (shown_answer a.number a.side a.p a.q a.r) };

@@ -5,8 +5,16 @@ ghost use Rattle.std.specs.Prelude.{◌≡◌, length, slice_index};
 ghost use Rattle.plan.specs.Model.{Model, Lawful};
 
 pub mod answer;
+pub mod outcome;
 
 pub use answer::{Answer, Side, TooShort};
+pub use outcome::{Outcome, opening_answer};
+
+// A plan has at most this many states.
+pub const MOST_STATES: usize = 128;
+
+// And at most this many channels.
+pub const MOST_CHANNELS: usize = 4;
 
 // The seven questions that every plan answers. `meaning` says what the plan is; each answer is the
 // meaning's, for every argument, and is the same every time. Whoever makes a further kind shows the
