@@ -1,8 +1,7 @@
 // Why a plan file is refused.
-ghost use Rattle.std.specs.Prelude.{◌≡◌};
-ghost use Rattle.layout.specs.Refusals.{refusal_numbers, opening_numbers};
+ghost use Rattle.layout.specs.Refusals.{refusal_numbers};
 
-use plan::{Answer, Plan};
+use plan::{Answer, Outcome};
 
 // One case for each question that is answered no; rows count from 0, and the lowest at fault is named.
 #[derive(Clone, Copy, PartialEq, Eq, Debug)]
@@ -23,29 +22,18 @@ pub enum FileRefusal {
     Step(usize),
 }
 
-impl FileRefusal {
-    // The five numbers of this refusal.
-    pub fn answer(self) -> Answer
-        ensures { result ≡ refusal_numbers self }
-    {
+impl Outcome for FileRefusal {
+    ghost numbers = { refusal_numbers };
+
+    fn answer(&self) -> Answer {
         match self {
             FileRefusal::Length => Answer::refusal(1, 0, 0, 0),
             FileRefusal::Sign => Answer::refusal(2, 0, 0, 0),
             FileRefusal::Counts => Answer::refusal(3, 0, 0, 0),
             FileRefusal::Start => Answer::refusal(4, 0, 0, 0),
             FileRefusal::Parts => Answer::refusal(5, 0, 0, 0),
-            FileRefusal::Row(row) => Answer::refusal(6, 0, row, 0),
-            FileRefusal::Step(row) => Answer::refusal(7, 0, row, 0),
+            FileRefusal::Row(row) => Answer::refusal(6, 0, *row, 0),
+            FileRefusal::Step(row) => Answer::refusal(7, 0, *row, 0),
         }
-    }
-}
-
-// The five numbers of an opening: the plan's states and channels in p and q, or the refusal's.
-pub fn opening_answer<P: Plan>(opening: &Result<P, FileRefusal>) -> Answer
-    ensures { result ≡ opening_numbers P.meaning opening.now }
-{
-    match opening {
-        Ok(plan) => Answer::success(plan.states(), plan.channels()),
-        Err(refused) => refused.answer(),
     }
 }
