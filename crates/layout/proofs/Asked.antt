@@ -1,9 +1,15 @@
 -- The answer to a file whose header passes: the lowest row at fault, or success.
-use Rattle.std.proofs.Common.{◌≡◌, ℕ, Some, None, refl}
+use Rattle.std.proofs.Common.{◌≡◌, ℕ, Some, None, Err, Option, refl}
+use Rattle.std.specs.Option.{ok_or}
 use Rattle.plan.specs.Answers.{success, refusal_at}
 use Rattle.layout.specs.Lowest.{Lowest, lowest}
+use Rattle.layout.specs.declared.refusal.FileRefusal.{FileRefusal}
 use Rattle.layout.specs.Questions.{Questions, HeaderPasses, RowsPass, Passes, answer_to}
 use Rattle.layout.proofs.LowestOf.{lowest_none, lowest_is}
+
+-- where a row is not given, the refusal is the one that stands for it
+pub given_refusal : {X : Type 0} (given : Option X) (refused row : FileRefusal) → given ≡ None → Err refused ≡ ok_or given row → refused ≡ row
+given_refusal given refused row none is = let e : Err refused ≡ Err row = rw none at is in cc
 
 module _ (q : Questions) where
   module _ (passes : HeaderPasses q) where

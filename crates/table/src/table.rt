@@ -3,6 +3,7 @@ ghost use Rattle.plan.specs.Model.{Lawful};
 ghost use Rattle.table.specs.Rows.{stored_plan};
 
 use crate::row::Row;
+use plan::MOST_STATES;
 
 mod ask;
 mod open;
@@ -11,6 +12,6 @@ mod open;
 pub struct Table {
     states: usize,
     start: usize,
-    rows: [Row; 128],
+    rows: [Row; MOST_STATES],
     ghost lawful: { ∥ Lawful (stored_plan states start rows) ∥₁ },
 }

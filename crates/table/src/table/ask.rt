@@ -13,10 +13,7 @@ impl Table {
     fn row(&self, state: usize) -> Row
         ensures { result ≡ slice_index_or self.now.rows state blank }
     {
-        match self.rows.get(state) {
-            Some(row) => *row,
-            None => Row::BLANK,
-        }
+        self.rows.get(state).copied().unwrap_or(Row::BLANK)
     }
 }
 

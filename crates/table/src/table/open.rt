@@ -7,9 +7,12 @@ ghost use Rattle.table.specs.Opening.{HeaderRead, RowsRead, Refused, LowestAstra
 
 use super::Table;
 use crate::row::Row;
-use layout::{FileRefusal, has_sign, length_fits, word};
+use layout::{FileRefusal, check_beginning, word};
+use plan::MOST_STATES;
 
 const HEADER: usize = 8;
+
+const SIGN: [u8; 2] = [0x50, 0x4B];
 
 const ROW: usize = 8;
 
@@ -24,14 +27,9 @@ struct Header {
 fn read_header(bytes: &[u8]) -> Result<Header, FileRefusal>
     ensures { MatchResult result (HeaderRead bytes.now) (Refused bytes.now) }
 {
-    if !length_fits(bytes, HEADER) {
-        return Err(FileRefusal::Length);
-    }
-    if !has_sign(bytes, 0x50, 0x4B) {
-        return Err(FileRefusal::Sign);
-    }
+    check_beginning(bytes, HEADER, SIGN)?;
     let states = word(bytes, 2);
-    if states == 0 || states > 128 {
+    if states == 0 || states > MOST_STATES {
         return Err(FileRefusal::Counts);
     }
     let start = word(bytes, 4);
@@ -50,31 +48,29 @@ fn read_header(bytes: &[u8]) -> Result<Header, FileRefusal>
 }
 
 // Puts question 6 to each row, and keeps the rows.
-fn read_rows(bytes: &[u8], header: &Header) -> Result<[Row; 128], FileRefusal>
+fn read_rows(bytes: &[u8], header: &Header) -> Result<[Row; MOST_STATES], FileRefusal>
     requires { HeaderRead bytes.now header.now }
     ensures { MatchResult result (RowsRead bytes.now (states_in bytes.now)) (Refused bytes.now) }
 {
-    let mut rows = [Row::BLANK; 128];
+    let mut rows = [Row::BLANK; MOST_STATES];
     for i in 0..header.states {
-        match Row::read(bytes, header.rows + ROW * i) {
-            Some(row) => rows[i] = row,
-            None => return Err(FileRefusal::Row(i)),
-        }
+        rows[i] = Row::read(bytes, header.rows + ROW * i).ok_or(FileRefusal::Row(i))?;
     }
     Ok(rows)
 }
 
 // Puts question 7 to each row.
-fn check_targets(rows: &[Row; 128], states: usize) -> Result<(), FileRefusal>
+fn check_targets(rows: &[Row; MOST_STATES], states: usize) -> Result<(), FileRefusal>
     requires { states ≤ 128 }
     ensures { MatchResult result (λ _. LeadWithin rows.now states states) (LowestAstray rows.now states) }
 {
-    for i in 0..states {
-        if !rows[i].steps.lead_within(states) {
-            return Err(FileRefusal::Step(i));
-        }
+    match rows[..states]
+        .iter()
+        .position(|row| !row.steps.lead_within(states))
+    {
+        Some(row) => Err(FileRefusal::Step(row)),
+        None => Ok(()),
     }
-    Ok(())
 }
 
 impl Table {
