@@ -1,7 +1,8 @@
 -- State rows, one after the other.
-use Rattle.std.proofs.Common.{◌≡◌, ℕ, ◌+◌, ◌<◌, ◌≤◌, Bool, true, false, cond, not, ◌&&◌, ◌||◌, eqb, ltb, leb, ◌≢◌, List, length, get_or, set, replicate, Decides, sym, refl, ap, ◌∙◌, ⊎_elim, arith, below_more}
+use Rattle.std.proofs.Common.{◌≡◌, ℕ, zero, suc, ◌+◌, ◌<◌, ◌≤◌, Bool, true, false, cond, not, ◌&&◌, ◌||◌, eqb, ltb, leb, ◌≢◌, List, [], ◌∷◌, length, get_or, set, replicate, sym, refl, ap, ◌∙◌, ⊎_elim, arith, below_more}
+use Rattle.std.specs.List.{list_all}
 use Rattle.std.proofs.lemmas.List.{get_or_past, get_or-replicate, length-replicate, length-set, get_or-set_same, get_or-set_other}
-use Rattle.std.proofs.lemmas.Bool.{cases_lt, cases_eq, le-ltb, lt-ltb}
+use Rattle.std.proofs.lemmas.Bool.{cases_lt, cases_eq, le-ltb, lt-ltb, and_parts, and_from, eqb-true, eq-eqb}
 use Rattle.std.proofs.lemmas.Bool.Decides.{nat_tests, same_from_decides, Decides-like, Decides-below_and, Decides-eqb}
 use Rattle.layout.specs.Questions.{HeaderPasses, RowsPass}
 use Rattle.layout.specs.declared.refusal.FileRefusal.TheVariants.{Row as RowRefused}
@@ -45,10 +46,19 @@ codes_more b at k codes code read small is = record {
       (cases_eq j k);
 }
 
+-- all elements are 0: then each is, also behind the last one
+zeros : (xs : List ℕ) (k : ℕ) → list_all (λ x. eqb x 0) xs ≡ true → get_or xs k 0 ≡ 0
+zeros [] k all = refl
+zeros (x ∷ xs) zero all = eqb-true x 0 (and_parts (eqb x 0) (list_all (λ x. eqb x 0) xs) all).0
+zeros (x ∷ xs) (suc k) all = zeros xs k (and_parts (eqb x 0) (list_all (λ x. eqb x 0) xs) all).1
+
+from_zeros : (xs : List ℕ) → ((k : ℕ) → get_or xs k 0 ≡ 0) → list_all (λ x. eqb x 0) xs ≡ true
+from_zeros [] each = refl
+from_zeros (x ∷ xs) each = and_from (eqb x 0) (list_all (λ x. eqb x 0) xs) (eq-eqb x 0 (each 0)) (from_zeros xs (λ k. each (suc k)))
+
 -- a row whose codes are all 0 is silent
-pub silent_is : (b : List ℕ) (at c : ℕ) (codes : List ℕ) (zero-codes : Bool) → CodesRead b at c codes
-    → Decides zero-codes ((k : ℕ) → get_or codes k 0 ≡ 0) → zero-codes ≡ silent_at b at c
-silent_is b at c codes zero-codes read decided =
+pub silent_is : (b : List ℕ) (at c : ℕ) (codes : List ℕ) → CodesRead b at c codes → list_all (λ x. eqb x 0) codes ≡ silent_at b at c
+silent_is b at c codes read =
     let there : (k : ℕ) → k < c → get_or codes k 0 ≡ code_at b at k =
     λ k low. read.each_code k ∙ ap (λ t. cond t (code_at b at k) 0) (lt-ltb k c low) in
     let onward : ((k : ℕ) → get_or codes k 0 ≡ 0) → (k : ℕ) → k < c → code_at b at k ≡ 0 = λ all k low. sym (there k low) ∙ all k in
@@ -58,15 +68,16 @@ silent_is b at c codes zero-codes read decided =
     (λ (low : k < c). there k low ∙ all k low)
     (λ (high : c ≤ k). read.each_code k ∙ ap (λ t. cond t (code_at b at k) 0) (le-ltb k c high))
     (cases_lt k c) in
-    same_from_decides zero-codes (silent_at b at c) (Decides-like zero-codes onward back decided)
+    same_from_decides (list_all (λ x. eqb x 0) codes) (silent_at b at c)
+    (Decides-like (list_all (λ x. eqb x 0) codes) onward back (λ yes k. zeros codes k yes, from_zeros codes))
     (Decides-below_and (λ k. eqb (code_at b at k) 0) (λ k. code_at b at k ≡ 0) (silent_at b at) (λ k. Decides-eqb (code_at b at k) 0) refl (λ _. refl) c)
 
 -- the test that is made of a row is the one that the layout asks for
-pub proper_is : (b : List ℕ) (at c mark : ℕ) (codes : List ℕ) (zero-codes : Bool) → mark ≡ mark_at b at → CodesRead b at c codes
-    → Decides zero-codes ((k : ℕ) → get_or codes k 0 ≡ 0) → (leb mark 1 && (eqb mark 1 || zero-codes)) ≡ proper_at b at c
-proper_is b at c mark codes zero-codes is read decided =
-    ap (λ m. leb m 1 && (eqb m 1 || zero-codes)) is
-    ∙ ap (λ z. leb (mark_at b at) 1 && (eqb (mark_at b at) 1 || z)) (silent_is b at c codes zero-codes read decided)
+pub proper_is : (b : List ℕ) (at c mark : ℕ) (codes : List ℕ) (silent : Bool) → mark ≡ mark_at b at → CodesRead b at c codes
+    → silent ≡ list_all (λ x. eqb x 0) codes → (leb mark 1 && (eqb mark 1 || silent)) ≡ proper_at b at c
+proper_is b at c mark codes silent is read zeros-all =
+    ap (λ m. leb m 1 && (eqb m 1 || silent)) is
+    ∙ ap (λ z. leb (mark_at b at) 1 && (eqb (mark_at b at) 1 || z)) (zeros-all ∙ silent_is b at c codes read)
 
 -- before the first state row
 pub states_none : (b : List ℕ) → StatesRead b 0 (replicate 128 blank)

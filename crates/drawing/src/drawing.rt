@@ -4,6 +4,7 @@ ghost use Rattle.drawing.specs.Stored.{stored_plan, SpansFit};
 
 use crate::state::State;
 use crate::steps::StepTable;
+use plan::MOST_STATES;
 
 mod ask;
 mod open;
@@ -14,7 +15,7 @@ pub struct Drawing {
     start: usize,
     channels: usize,
     // One for each state, and blank ones behind them.
-    rows: [State; 128],
+    rows: [State; MOST_STATES],
     steps: StepTable,
     ghost lawful: { ∥ Lawful (stored_plan states start channels rows steps) ∥₁ },
     ghost spans_fit: { SpansFit steps },

@@ -1,23 +1,26 @@
 // A state of a drawing: its mark and its codes.
-ghost use Rattle.std.specs.Prelude.{◌≡◌, ℕ, ◌<◌, ◌≤◌, true, false, Decides, MatchOption, slice_index};
+ghost use Rattle.std.specs.Prelude.{◌≡◌, ◌<◌, ◌≤◌, false, MatchOption, ◌==◌};
+ghost use Rattle.std.specs.List.{list_all};
 ghost use Rattle.drawing.specs.Layout.{proper_at};
 ghost use Rattle.drawing.specs.Opening.{CodesRead, StateRead};
 
 use layout::{long, word};
+use plan::MOST_CHANNELS;
 
 #[derive(Clone, Copy)]
 pub struct State {
     pub marked: bool,
     // By channel, 0 past the last one.
-    pub codes: [u32; 4],
+    pub codes: [u32; MOST_CHANNELS],
 }
 
 // The codes of the state row at this place.
-fn read_codes(bytes: &[u8], at: usize, channels: usize) -> [u32; 4]
-    requires { (at < 100000) × (channels ≤ 4) }
+fn read_codes(bytes: &[u8], at: usize, channels: usize) -> [u32; MOST_CHANNELS]
+    requires near { at < 100000 }
+    requires few { channels ≤ 4 }
     ensures { CodesRead bytes.now at channels result }
 {
-    let mut codes = [0; 4];
+    let mut codes = [0; MOST_CHANNELS];
     for k in 0..channels {
         codes[k] = long(bytes, at + 2 + 4 * k);
     }
@@ -25,27 +28,23 @@ fn read_codes(bytes: &[u8], at: usize, channels: usize) -> [u32; 4]
 }
 
 // Are all codes 0?
-fn all_zero(codes: &[u32; 4]) -> bool
-    ensures { Decides result ((k : ℕ) → slice_index codes.now k ≡ 0) }
+fn all_zero(codes: &[u32; MOST_CHANNELS]) -> bool
+    ensures { result ≡ list_all (λ code. code == 0) codes.now }
 {
-    for code in codes {
-        if *code != 0 {
-            return false;
-        }
-    }
-    true
+    codes.iter().all(|code| *code == 0)
 }
 
 impl State {
     // A state that does not exist.
     pub(crate) const BLANK: State = State {
         marked: false,
-        codes: [0; 4],
+        codes: [0; MOST_CHANNELS],
     };
 
     // The state row at this place, if it is proper.
     pub(crate) fn read(bytes: &[u8], at: usize, channels: usize) -> Option<State>
-        requires { (at < 100000) × (channels ≤ 4) }
+        requires near { at < 100000 }
+        requires few { channels ≤ 4 }
         ensures { MatchOption result (proper_at bytes.now at channels ≡ false) (StateRead bytes.now at channels) }
     {
         let mark = word(bytes, at);

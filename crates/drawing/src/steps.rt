@@ -2,16 +2,26 @@
 ghost use Rattle.std.specs.Prelude.{◌≡◌, ◌+◌, ◌<◌, ◌≤◌, length, replicate, slice_index, slice_set};
 ghost use Rattle.drawing.specs.Stored.{no_span, span_of, steps_of, extended, SpansFit};
 
+use plan::MOST_STATES;
+
+// A drawing has at most this many steps.
+pub(crate) const MOST_STEPS: usize = 1024;
+
 #[derive(Clone, Copy)]
 pub struct Span {
     pub first: u16,
     pub count: u16,
 }
 
+impl Span {
+    // No steps.
+    const NONE: Span = Span { first: 0, count: 0 };
+}
+
 #[derive(Drop)]
 pub struct StepTable {
-    pub spans: [Span; 128],
-    pub targets: [u8; 1024],
+    pub spans: [Span; MOST_STATES],
+    pub targets: [u8; MOST_STEPS],
 }
 
 impl StepTable {
@@ -20,14 +30,16 @@ impl StepTable {
         ensures { result ≡ record { spans = replicate 128 no_span; targets = replicate 1024 0 } }
     {
         StepTable {
-            spans: [Span { first: 0, count: 0 }; 128],
-            targets: [0; 1024],
+            spans: [Span::NONE; MOST_STATES],
+            targets: [0; MOST_STEPS],
         }
     }
 
     // One step more of a state: its target goes to this place, right behind the state's other targets, if it has any.
     pub(crate) fn add(&mut self, place: usize, from: usize, to: u8)
-        requires { (place < 1024) × ((from < 128) × ((span_of self.old from).first + (span_of self.old from).count ≤ place)) }
+        requires in_table { place < 1024 }
+        requires is_state { from < 128 }
+        requires behind { (span_of self.old from).first + (span_of self.old from).count ≤ place }
         ensures spans { self.new.spans ≡ slice_set self.old.spans from (extended (span_of self.old from) place) }
         ensures targets { self.new.targets ≡ slice_set self.old.targets place to }
     {
@@ -43,10 +55,7 @@ impl StepTable {
     fn span(&self, state: usize) -> Span
         ensures { result ≡ span_of self.now state }
     {
-        match self.spans.get(state) {
-            Some(span) => *span,
-            None => Span { first: 0, count: 0 },
-        }
+        self.spans.get(state).copied().unwrap_or(Span::NONE)
     }
 
     // How many steps this state has.

@@ -13,10 +13,7 @@ impl Drawing {
     fn row(&self, state: usize) -> State
         ensures { result ≡ slice_index_or self.now.rows state blank }
     {
-        match self.rows.get(state) {
-            Some(row) => *row,
-            None => State::BLANK,
-        }
+        self.rows.get(state).copied().unwrap_or(State::BLANK)
     }
 }
 
@@ -42,10 +39,7 @@ impl Plan for Drawing {
     }
 
     fn code(&self, state: usize, channel: usize) -> u32 {
-        match self.row(state).codes.get(channel) {
-            Some(code) => *code,
-            None => 0,
-        }
+        self.row(state).codes.get(channel).copied().unwrap_or(0)
     }
 
     fn step_count(&self, state: usize) -> usize {

@@ -1,16 +1,19 @@
 // Opening a drawing file: the seven questions, in their order.
 ghost use Rattle.std.specs.Prelude.{◌≡◌, ◌<◌, IfOk, MatchResult};
 ghost use Rattle.layout.specs.Refusals.{opening_numbers};
-ghost use Rattle.drawing.specs.Layout.{states_in, steps_in, astray_in, before, drawing_plan, drawing_answer};
+ghost use Rattle.drawing.specs.Layout.{states_in, steps_in, astray_in, drawing_plan, drawing_answer};
 ghost use Rattle.drawing.specs.contracts.drawing.ask.DrawingPlan.TheImpl.{ghosts};
 ghost use Rattle.drawing.specs.Opening.{HeaderRead, StatesRead, StepRowRead, StepsRead, Refused, LowestAstray};
 
 use super::Drawing;
 use crate::state::State;
-use crate::steps::StepTable;
-use layout::{FileRefusal, has_sign, length_fits, word};
+use crate::steps::{MOST_STEPS, StepTable};
+use layout::{FileRefusal, check_beginning, word};
+use plan::{MOST_CHANNELS, MOST_STATES};
 
 const HEADER: usize = 14;
+
+const SIGN: [u8; 2] = [0x44, 0x50];
 
 const STEP_ROW: usize = 4;
 
@@ -28,16 +31,11 @@ struct Header {
 fn read_header(bytes: &[u8]) -> Result<Header, FileRefusal>
     ensures { MatchResult result (HeaderRead bytes.now) (Refused bytes.now) }
 {
-    if !length_fits(bytes, HEADER) {
-        return Err(FileRefusal::Length);
-    }
-    if !has_sign(bytes, 0x44, 0x50) {
-        return Err(FileRefusal::Sign);
-    }
+    check_beginning(bytes, HEADER, SIGN)?;
     let states = word(bytes, 2);
     let steps = word(bytes, 4);
     let channels = word(bytes, 6);
-    if states == 0 || states > 128 || steps > 1024 || channels > 4 {
+    if states == 0 || states > MOST_STATES || steps > MOST_STEPS || channels > MOST_CHANNELS {
         return Err(FileRefusal::Counts);
     }
     let start = word(bytes, 8);
@@ -62,73 +60,80 @@ fn read_header(bytes: &[u8]) -> Result<Header, FileRefusal>
     })
 }
 
-// Puts question 6 to each state row, and keeps the rows.
-fn read_states(bytes: &[u8], header: &Header) -> Result<[State; 128], FileRefusal>
-    requires { HeaderRead bytes.now header.now }
-    ensures { MatchResult result (StatesRead bytes.now (states_in bytes.now)) (Refused bytes.now) }
-{
-    let mut rows = [State::BLANK; 128];
-    let row_length = 2 + 4 * header.channels;
-    for s in 0..header.states {
-        match State::read(bytes, header.state_rows + s * row_length, header.channels) {
-            Some(state) => rows[s] = state,
-            None => return Err(FileRefusal::Row(s)),
-        }
-    }
-    Ok(rows)
-}
-
-// A step row: the state that it leads from, and the one that it leads to.
-#[derive(Clone, Copy)]
+// A step row: the state that it leads from, and the one that it leads to. Rows are in the order of from, then to.
+#[derive(Clone, Copy, PartialEq, Eq, PartialOrd, Ord)]
 struct StepRow {
     from: usize,
     to: usize,
 }
 
-impl StepRow {
-    // Step row i of a file.
-    fn read(bytes: &[u8], header: &Header, i: usize) -> StepRow
-        requires { (HeaderRead bytes.now header.now) × (i < 1024) }
-        ensures { StepRowRead bytes.now i result }
+// A file with its header, which passes the first five questions.
+#[derive(Drop)]
+struct DrawingFile<'a> {
+    bytes: &'a [u8],
+    header: Header,
+    ghost read: { HeaderRead bytes.now header },
+}
+
+impl<'a> DrawingFile<'a> {
+    // Puts the first five questions.
+    fn open(bytes: &'a [u8]) -> Result<DrawingFile<'a>, FileRefusal>
+        ensures { MatchResult result (λ f. f.bytes.now ≡ bytes.now) (Refused bytes.now) }
     {
-        let at = header.step_rows + STEP_ROW * i;
+        let header = read_header(bytes)?;
+        Ok(DrawingFile { bytes, header })
+    }
+
+    // Puts question 6 to each state row, and keeps the rows.
+    fn read_states(&self) -> Result<[State; MOST_STATES], FileRefusal>
+        ensures { MatchResult result (StatesRead self.now.bytes.now (states_in self.now.bytes.now)) (Refused self.now.bytes.now) }
+    {
+        let mut rows = [State::BLANK; MOST_STATES];
+        let header = &self.header;
+        let row_length = 2 + 4 * header.channels;
+        for s in 0..header.states {
+            let at = header.state_rows + s * row_length;
+            rows[s] = State::read(self.bytes, at, header.channels).ok_or(FileRefusal::Row(s))?;
+        }
+        Ok(rows)
+    }
+
+    // Step row i.
+    fn step_row(&self, i: usize) -> StepRow
+        requires { i < 1024 }
+        ensures { StepRowRead self.now.bytes.now i result }
+    {
+        let at = self.header.step_rows + STEP_ROW * i;
         StepRow {
-            from: word(bytes, at),
-            to: word(bytes, at + 2),
+            from: word(self.bytes, at),
+            to: word(self.bytes, at + 2),
         }
     }
 
-    // Does this step come before the other one, by from, then to?
-    fn comes_before(self, other: StepRow) -> bool
-        ensures { result ≡ before self.from self.to other.from other.to }
+    // Does step row i, which is this one, lead astray, or not come after the row before it?
+    fn leads_astray(&self, i: usize, row: StepRow) -> bool
+        requires in_table { i < 1024 }
+        requires is_row { StepRowRead self.now.bytes.now i row }
+        ensures { result ≡ astray_in self.now.bytes.now i }
     {
-        (self.from < other.from) | ((self.from == other.from) & (self.to < other.to))
+        let out_of_order = i > 0 && !(self.step_row(i - 1) < row);
+        (row.from >= self.header.states) | (row.to >= self.header.states) | out_of_order
     }
-}
 
-// Does step row i, which is this one, lead astray, or not come after the row before it?
-fn leads_astray(bytes: &[u8], header: &Header, i: usize, row: StepRow) -> bool
-    requires { (HeaderRead bytes.now header.now) × ((i < 1024) × (StepRowRead bytes.now i row)) }
-    ensures { result ≡ astray_in bytes.now i }
-{
-    let out_of_order = i > 0 && !StepRow::read(bytes, header, i - 1).comes_before(row);
-    (row.from >= header.states) | (row.to >= header.states) | out_of_order
-}
-
-// Puts question 7 to each step row, and keeps the steps.
-fn read_steps(bytes: &[u8], header: &Header) -> Result<StepTable, FileRefusal>
-    requires { HeaderRead bytes.now header.now }
-    ensures { MatchResult result (StepsRead bytes.now (steps_in bytes.now)) (LowestAstray bytes.now) }
-{
-    let mut steps = StepTable::empty();
-    for i in 0..header.steps {
-        let row = StepRow::read(bytes, header, i);
-        if leads_astray(bytes, header, i, row) {
-            return Err(FileRefusal::Step(i));
+    // Puts question 7 to each step row, and keeps the steps.
+    fn read_steps(&self) -> Result<StepTable, FileRefusal>
+        ensures { MatchResult result (StepsRead self.now.bytes.now (steps_in self.now.bytes.now)) (LowestAstray self.now.bytes.now) }
+    {
+        let mut steps = StepTable::empty();
+        for i in 0..self.header.steps {
+            let row = self.step_row(i);
+            if self.leads_astray(i, row) {
+                return Err(FileRefusal::Step(i));
+            }
+            steps.add(i, row.from, row.to as u8);
         }
-        steps.add(i, row.from, row.to as u8);
+        Ok(steps)
     }
-    Ok(steps)
 }
 
 impl Drawing {
@@ -138,13 +143,13 @@ impl Drawing {
         ensures numbers { opening_numbers ghosts.meaning result ≡ drawing_answer bytes.now }
         ensures plan { IfOk result (λ d. ghosts.meaning d ≡ drawing_plan bytes.now) }
     {
-        let header = read_header(bytes)?;
-        let rows = read_states(bytes, &header)?;
-        let steps = read_steps(bytes, &header)?;
+        let file = DrawingFile::open(bytes)?;
+        let rows = file.read_states()?;
+        let steps = file.read_steps()?;
         Ok(Drawing {
-            states: header.states,
-            start: header.start,
-            channels: header.channels,
+            states: file.header.states,
+            start: file.header.start,
+            channels: file.header.channels,
             rows,
             steps,
         })

@@ -1,7 +1,0 @@
-use Rattle.std.proofs.Common.{sym}
-use Rattle.std.proofs.lemmas.List.{get_or_past}
-use Rattle.drawing.specs.Stored.{blank}
-use Rattle.drawing.proofs.drawing.Drawing.row.Goals as goal
-
-pub returns-in-None : goal.returns-in-None
-returns-in-None c = sym (get_or_past c.args.self.now.rows c.args.state blank c.in-None.ensures.lookup.3)
