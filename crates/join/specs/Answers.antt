@@ -1,7 +1,7 @@
 -- What joining two plans answers.
-use Rattle.std.specs.Prelude.{◌+◌, ◌*◌, cond, Ok, Err, Result}
+use Rattle.std.specs.Prelude.{◌+◌, ◌*◌, cond, Some, None, Option, Result}
 use Rattle.plan.specs.declared.answer.Answer.{Answer}
-use Rattle.plan.specs.Answers.{numbers, success}
+use Rattle.plan.specs.Answers.{numbers, success, opening_numbers}
 use Rattle.plan.specs.Model.{Model}
 use Rattle.join.specs.declared.JoinRefusal.{JoinRefusal}
 use Rattle.join.specs.declared.JoinRefusal.TheVariants.{States, Channels}
@@ -22,7 +22,17 @@ abbrev pub refusal_numbers : JoinRefusal → Answer
 refusal_numbers (States first second) = numbers 8 0 first second 0
 refusal_numbers (Channels first second) = numbers 9 0 first second 0
 
+-- those of a refused join are its refusal's
+abbrev pub back_numbers : {A B : Type 0} → NotJoined A B → Answer
+back_numbers back = refusal_numbers back.refusal
+
 -- the answer to joining, by what came of it
 abbrev pub joining_numbers : {A B : Type 0} → (Joined A B → Model) → Result (Joined A B) (NotJoined A B) → Answer
-joining_numbers meaning (Ok both) = success (meaning both).states (meaning both).channels
-joining_numbers meaning (Err back) = refusal_numbers back.refusal
+joining_numbers meaning = opening_numbers meaning back_numbers
+
+-- the limits that two plans exceed: the product of the states is asked before the sum of the channels
+abbrev pub join_refused : Model → Model → Option JoinRefusal
+join_refused a b =
+    cond (states_fit a b)
+    (cond (channels_fit a b) None (Some (Channels a.channels b.channels)))
+    (Some (States a.states b.states))

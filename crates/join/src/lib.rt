@@ -4,9 +4,9 @@
 ghost use Rattle.std.specs.Prelude.{◌≡◌, IfOk, MatchResult};
 ghost use Rattle.join.specs.Joining.{fits_join, SideBySide};
 ghost use Rattle.join.specs.Meaning.{joined_meaning};
-ghost use Rattle.join.specs.Answers.{join_answer, joining_numbers, refusal_numbers};
+ghost use Rattle.join.specs.Answers.{join_answer, joining_numbers, refusal_numbers, back_numbers, join_refused};
 
-use plan::{Answer, Plan};
+use plan::{Answer, MOST_CHANNELS, MOST_STATES, Outcome, Plan};
 
 mod ask;
 
@@ -35,16 +35,38 @@ pub struct NotJoined<A, B> {
     pub second: B,
 }
 
-impl JoinRefusal {
-    // The five numbers of this refusal.
-    pub fn answer(self) -> Answer
-        ensures { result ≡ refusal_numbers self }
-    {
+impl Outcome for JoinRefusal {
+    ghost numbers = { refusal_numbers };
+
+    fn answer(&self) -> Answer {
         match self {
-            JoinRefusal::States(p, q) => Answer::refusal(8, 0, p, q),
-            JoinRefusal::Channels(p, q) => Answer::refusal(9, 0, p, q),
+            JoinRefusal::States(p, q) => Answer::refusal(8, 0, *p, *q),
+            JoinRefusal::Channels(p, q) => Answer::refusal(9, 0, *p, *q),
         }
     }
+}
+
+impl<A, B> Outcome for NotJoined<A, B> {
+    ghost numbers = { back_numbers };
+
+    fn answer(&self) -> Answer {
+        self.refusal.answer()
+    }
+}
+
+// The limits of a joined plan that two plans exceed, states before channels.
+fn refused<A: Plan, B: Plan>(first: &A, second: &B) -> Option<JoinRefusal>
+    ensures { result ≡ join_refused (A.meaning first.now) (B.meaning second.now) }
+{
+    let states = first.states() * second.states();
+    if states > MOST_STATES {
+        return Some(JoinRefusal::States(first.states(), second.states()));
+    }
+    let channels = first.channels() + second.channels();
+    if channels > MOST_CHANNELS {
+        return Some(JoinRefusal::Channels(first.channels(), second.channels()));
+    }
+    None
 }
 
 impl<A: Plan, B: Plan> Joined<A, B> {
@@ -54,18 +76,7 @@ impl<A: Plan, B: Plan> Joined<A, B> {
         ensures plans { MatchResult result (λ j. (j.first ≡ first) × (j.second ≡ second)) (λ e. (e.first ≡ first) × (e.second ≡ second)) }
         ensures meets { IfOk result (λ j. SideBySide (A.meaning first) (B.meaning second) (joined_meaning A.meaning B.meaning j)) }
     {
-        let states = first.states() * second.states();
-        if states > 128 {
-            let refusal = JoinRefusal::States(first.states(), second.states());
-            return Err(NotJoined {
-                refusal,
-                first,
-                second,
-            });
-        }
-        let channels = first.channels() + second.channels();
-        if channels > 4 {
-            let refusal = JoinRefusal::Channels(first.channels(), second.channels());
+        if let Some(refusal) = refused(&first, &second) {
             return Err(NotJoined {
                 refusal,
                 first,
@@ -77,7 +88,8 @@ impl<A: Plan, B: Plan> Joined<A, B> {
 
     // Hands both plans back, as they were handed in.
     pub fn into_parts(self) -> (A, B)
-        ensures { (result.0 ≡ self.first) × (result.1 ≡ self.second) }
+        ensures first { result.0 ≡ self.first }
+        ensures second { result.1 ≡ self.second }
     {
         (self.first, self.second)
     }
@@ -86,17 +98,7 @@ impl<A: Plan, B: Plan> Joined<A, B> {
     fn fits(&self) -> bool
         ensures { result ≡ fits_join (A.meaning self.now.first) (B.meaning self.now.second) }
     {
-        (self.first.states() * self.second.states() <= 128)
-            & (self.first.channels() + self.second.channels() <= 4)
-    }
-}
-
-// The five numbers of joining: the joined plan's states and channels in p and q, or the refusal's.
-pub fn joining_answer<A: Plan, B: Plan>(joining: &Result<Joined<A, B>, NotJoined<A, B>>) -> Answer
-    ensures { result ≡ joining_numbers (joined_meaning A.meaning B.meaning) joining.now }
-{
-    match joining {
-        Ok(both) => Answer::success(both.states(), both.channels()),
-        Err(back) => back.refusal.answer(),
+        (self.first.states() * self.second.states() <= MOST_STATES)
+            & (self.first.channels() + self.second.channels() <= MOST_CHANNELS)
     }
 }

@@ -1,11 +1,20 @@
-use Rattle.std.proofs.Common.{◌*◌, ◌≤◌, refl, arith}
+use Rattle.std.proofs.Common.{◌≡◌, ◌+◌, ◌*◌, Bool, true, false, cond, Some, None, refl}
+use Rattle.std.proofs.lemmas.Bool.{leb-true}
+use Rattle.join.specs.declared.JoinRefusal.{JoinRefusal}
+use Rattle.join.specs.Joining.{states_fit, channels_fit}
 use Rattle.join.specs.Sides.{joined_right}
 use Rattle.join.proofs.Joined.join.Goals as goal
 
-pub returns : goal.returns
-returns g c =
+-- where nothing is refused, both limits are kept
+both_kept : (p q : Bool) (x y : JoinRefusal) → None ≡ cond p (cond q None (Some x)) (Some y) → (p ≡ true) × (q ≡ true)
+both_kept true true x y e = (refl, refl)
+both_kept true false x y e = absurd cc
+both_kept false q x y e = absurd cc
+
+pub returns-clause-meets : goal.returns-clause-meets
+returns-clause-meets g c =
     let a = g.A.Plan.meaning c.args.first in
     let b = g.B.Plan.meaning c.args.second in
-    let few : a.states * b.states ≤ 128 = grind arith in
-    let right = joined_right a b (g.met.B.Plan.lawful c.args.second) few (omega arith) in
-    record { numbers = right.numbers_right; plans = (refl, refl); meets = right.stands }
+    let kept = both_kept (states_fit a b) (channels_fit a b) _ _ c.in_default.ensures in
+    (joined_right a b (g.met.B.Plan.lawful c.args.second)
+    (leb-true (a.states * b.states) 128 kept.0) (leb-true (a.channels + b.channels) 4 kept.1)).stands
