@@ -15,10 +15,7 @@ pub fn lowest_refused<A: Plan, B: Plan, R: Rule>(
 ) -> Option<usize>
     ensures { LowestRefused (A.meaning first.now) (B.meaning second.now) (R.says rule.now) s t result }
 {
-    for channel in 0..first.channels() {
-        if !rule.accepts(channel, first.code(s, channel), second.code(t, channel)) {
-            return Some(channel);
-        }
-    }
-    None
+    (0..first.channels()).find(|&channel| {
+        !rule.accepts(channel, first.code(s, channel), second.code(t, channel))
+    })
 }

@@ -1,24 +1,15 @@
 // The rule that lists which codes go together.
 ghost use Rattle.std.specs.Prelude.{◌≡◌};
-ghost use Rattle.rules.specs.Rules.{names, listed_says};
+ghost use Rattle.rules.specs.Rules.{listed_says};
 
 use crate::Rule;
 
 // On this channel, these two codes go together.
-#[derive(Clone, Copy)]
+#[derive(Clone, Copy, PartialEq, Eq)]
 pub struct CodePair {
     pub channel: usize,
     pub first: u32,
     pub second: u32,
-}
-
-impl CodePair {
-    // Does this record name the channel and both codes?
-    fn names(&self, channel: usize, first: u32, second: u32) -> bool
-        ensures { result ≡ names self.now channel first second }
-    {
-        self.channel == channel && self.first == first && self.second == second
-    }
 }
 
 // The records of the rule, lent by whoever keeps them. No pair goes together that none of them names.
@@ -40,11 +31,11 @@ impl<'a> Rule for Listed<'a> {
     ghost says = { λ l. listed_says l.records.now };
 
     fn accepts(&self, channel: usize, first: u32, second: u32) -> bool {
-        for pair in self.records {
-            if pair.names(channel, first, second) {
-                return true;
-            }
-        }
-        false
+        let wanted = CodePair {
+            channel,
+            first,
+            second,
+        };
+        self.records.contains(&wanted)
     }
 }

@@ -1,5 +1,5 @@
 -- States between closings, and why only one finding is true.
-use Rattle.std.proofs.Common.{◌≡◌, ℕ, ◌<◌, Bool, false, not, ◌&&◌, List, get_or, Decides, sym, refl, ap, ◌∙◌, ⊎_elim}
+use Rattle.std.proofs.Common.{◌≡◌, ℕ, ◌<◌, ◌≤◌, Bool, false, not, ◌&&◌, List, get_or, Option, Some, None, MatchOption, Decides, sym, refl, ap, ◌∙◌, ⊎_elim, arith}
 use Rattle.std.proofs.lemmas.Bool.{and_parts, and_from, not-true, not_from_false, both_ways, cases_order}
 use Rattle.plan.specs.Model.{Model, Lawful}
 use Rattle.plan.specs.Runs.{Leads, Between, Stuck, Circling}
@@ -28,10 +28,18 @@ module _ (m : Model) where
   leads_below laws s t (by_step h) = step_below m laws s t h
   leads_below laws s t (through {u = u} l unmarked h) = step_below m laws u t h
 
-  pub between_below : Lawful m → (u : ℕ) → Between m u → u < m.states
+  between_below : Lawful m → (u : ℕ) → Between m u → u < m.states
   between_below laws u between =
       let last = led_to m between.1.0 u between.1.1 between.1.2 between.0 in
       leads_below laws last.0 u last.2
+
+  -- the first of the plan's states with a fault is the lowest one, where only states between closings have it
+  pub lowest_is : Lawful m → (P : ℕ → Type 0) → ((u : ℕ) → P u → Between m u) → (from n : ℕ) (found : Option ℕ) → from ≡ 0 → n ≡ m.states
+      → MatchOption found ((u : ℕ) → from ≤ u → u < n → P u → ⊥) (λ s. (from ≤ s) × (s < n) × P s × ((t : ℕ) → from ≤ t → t < s → P t → ⊥))
+      → MatchOption found ((u : ℕ) → P u → ⊥) (LowestSuch P)
+  lowest_is laws P between from n None from_first all_states h = λ u fault.
+      h u (omega (arith, from_first)) (omega (arith, all_states, between_below laws u (between u fault))) fault
+  lowest_is laws P between from n (Some s) from_first all_states h = (h.2, λ t below. h.3 t (omega (arith, from_first)) below)
 
 -- two lowest such states are the same
 pub same_lowest : (P : ℕ → Type 0) (s t : ℕ) → LowestSuch P s → LowestSuch P t → s ≡ t

@@ -5,15 +5,15 @@ ghost use Rattle.walk.specs.Walking.{MarkedLeadInto};
 ghost use Rattle.vet.specs.Findings.{Finds, LowestSuch};
 
 use crate::finding::Finding;
-use plan::Plan;
+use plan::{MOST_STATES, Plan};
 use walk::{has, led_from, led_from_marked};
 
 // Can this state be reached from a marked one, and is it unmarked? `led` has the states that marked ones lead to.
-fn is_between<P: Plan>(plan: &P, led: &[bool; 128], state: usize) -> bool
+fn is_between<P: Plan>(plan: &P, led: &[bool; MOST_STATES], state: usize) -> bool
     requires { MarkedLeadInto (P.meaning plan.now) led.now }
     ensures { Decides result (Between (P.meaning plan.now) state) }
 {
-    has(led, state) & !plan.marked(state)
+    has(led, state) && !plan.marked(state)
 }
 
 // Does this state lead back to itself?
@@ -24,29 +24,19 @@ fn leads_back<P: Plan>(plan: &P, state: usize) -> bool
 }
 
 // The lowest unmarked state that can be reached from a marked one and has no step.
-fn lowest_stuck<P: Plan>(plan: &P, led: &[bool; 128]) -> Option<usize>
+fn lowest_stuck<P: Plan>(plan: &P, led: &[bool; MOST_STATES]) -> Option<usize>
     requires { MarkedLeadInto (P.meaning plan.now) led.now }
     ensures { MatchOption result ((u : ℕ) → Stuck (P.meaning plan.now) u → ⊥) (LowestSuch (Stuck (P.meaning plan.now))) }
 {
-    for s in 0..plan.states() {
-        if is_between(plan, led, s) && plan.step_count(s) == 0 {
-            return Some(s);
-        }
-    }
-    None
+    (0..plan.states()).find(|&state| is_between(plan, led, state) && plan.step_count(state) == 0)
 }
 
 // The lowest unmarked state that can be reached from a marked one and lies on a cycle of unmarked states.
-fn lowest_circling<P: Plan>(plan: &P, led: &[bool; 128]) -> Option<usize>
+fn lowest_circling<P: Plan>(plan: &P, led: &[bool; MOST_STATES]) -> Option<usize>
     requires { MarkedLeadInto (P.meaning plan.now) led.now }
     ensures { MatchOption result ((u : ℕ) → Circling (P.meaning plan.now) u → ⊥) (LowestSuch (Circling (P.meaning plan.now))) }
 {
-    for s in 0..plan.states() {
-        if is_between(plan, led, s) && leads_back(plan, s) {
-            return Some(s);
-        }
-    }
-    None
+    (0..plan.states()).find(|&state| is_between(plan, led, state) && leads_back(plan, state))
 }
 
 // Puts the three questions in their order.
@@ -61,8 +51,8 @@ pub(crate) fn find_fault<P: Plan>(plan: &P) -> Finding
     if let Some(state) = lowest_stuck(plan, &led) {
         return Finding::StuckAt(state);
     }
-    match lowest_circling(plan, &led) {
-        Some(state) => Finding::CirclingAt(state),
-        None => Finding::SoundPlan,
+    if let Some(state) = lowest_circling(plan, &led) {
+        return Finding::CirclingAt(state);
     }
+    Finding::SoundPlan
 }

@@ -1,9 +1,10 @@
 // What vetting a plan finds.
-ghost use Rattle.std.specs.Prelude.{◌≡◌};
 ghost use Rattle.vet.specs.Findings.{finding_numbers};
 
-use plan::Answer;
+use plan::{Answer, Outcome};
 
+// Not a Result with a type of faults: no call fails with one of these. A finding is kept beside its plan and printed, and
+// its numbers are one match over the four cases here, where a Result would take two matches over two types.
 #[derive(Clone, Copy, PartialEq, Eq, Debug)]
 pub enum Finding {
     // The plan is sound.
@@ -16,17 +17,16 @@ pub enum Finding {
     CirclingAt(usize),
 }
 
-impl Finding {
-    // The five numbers of this finding.
-    pub fn answer(self) -> Answer
-        ensures { result ≡ finding_numbers self }
-    {
-        let (number, p) = match self {
-            Finding::SoundPlan => (0, 0),
-            Finding::StartUnmarked(state) => (10, state),
-            Finding::StuckAt(state) => (11, state),
-            Finding::CirclingAt(state) => (12, state),
-        };
-        Answer::refusal(number, 0, p, 0)
+// The five numbers of a finding.
+impl Outcome for Finding {
+    ghost numbers = { finding_numbers };
+
+    fn answer(&self) -> Answer {
+        match *self {
+            Finding::SoundPlan => Answer::success(0, 0),
+            Finding::StartUnmarked(state) => Answer::refusal(10, 0, state, 0),
+            Finding::StuckAt(state) => Answer::refusal(11, 0, state, 0),
+            Finding::CirclingAt(state) => Answer::refusal(12, 0, state, 0),
+        }
     }
 }

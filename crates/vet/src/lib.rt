@@ -14,7 +14,8 @@ pub mod finding;
 use find::find_fault;
 pub use finding::Finding;
 
-// A plan of any kind with its finding. The fields are closed, so the finding is the one that vetting made.
+// A plan of any kind with its finding. The fields are closed, so the finding is the one that vetting made. By a rule of the
+// project it is no invariant of this type that the finding is true: `vet` promises it, and the next call asks for it.
 #[derive(Drop)]
 pub struct Vetted<P> {
     plan: P,
@@ -52,7 +53,6 @@ impl<P: Plan> Vetted<P> {
     pub fn into_plan(self) -> P
         ensures { result ≡ self.plan }
     {
-        let Vetted { plan, finding: _ } = self;
-        plan
+        self.plan
     }
 }
