@@ -1,13 +1,11 @@
 -- Which command a line says, by its letter and its numbers.
-use Rattle.std.proofs.Common.{◌≡◌, ℕ, ◌<◌, Bool, true, false, cond, ◌&&◌, eqb, List, [], length, get_or, take, Some, None, sym, refl, ap, ◌∙◌, ⊎_elim, arith}
-use Rattle.std.proofs.lemmas.List.{length-take-le, get_or-take}
-use Rattle.std.proofs.lemmas.Bool.{and_right, cases_eq, eq-eqb, ne_eqb, cond-false}
+use Rattle.std.proofs.Common.{◌≡◌, ℕ, ◌≤◌, Bool, true, false, cond, ◌&&◌, eqb, List, [], ◌∷◌, length, get_or, Some, None, sym, refl, ap, ◌∙◌, ⊎_elim, arith}
+use Rattle.std.proofs.lemmas.Bool.{and_right, cases_eq, cases_Bool, eqb-true, ne_eqb, cond-false}
 use Rattle.commands.specs.declared.command.Command.{Command}
 use Rattle.commands.specs.declared.command.Command.TheVariants.{Add, Strike, Load, Unknown}
-use Rattle.commands.specs.Lines.{fields_of}
+use Rattle.commands.specs.Lines.{in_front, fields_of}
 use Rattle.commands.specs.Commands.{is_number, number_in, is_letter, is_pair_line, command_in}
-use Rattle.commands.specs.Reading.{bytes_before, numbers_in, made_of, command_by}
-use Rattle.commands.proofs.Splits.{behind, before_within, fields_first, fields_one, fields_next, fields_some}
+use Rattle.commands.specs.Reading.{numbers_in, made_of, command_by}
 
 -- the last two of three fields are numbers
 abbrev has_numbers : List (List ℕ) → Bool
@@ -112,33 +110,34 @@ said fields letter alone is one =
     (cases_eq letter 115))
     (cases_eq letter 97)
 
--- the letter of a line whose first field is one byte, and of one whose first field is not
-pub letter_is : (line : List ℕ) (letter k : ℕ) → k ≡ bytes_before 32 line → k ≡ 1 → is_letter letter (get_or (fields_of line) 0 []) ≡ eqb (get_or line 0 0) letter
-letter_is line letter k is one =
-    let first : get_or (fields_of line) 0 [] ≡ take 1 line =
-    ap (λ fs. get_or fs 0 []) (fields_first line).1 ∙ ap (λ n. take n line) (sym is ∙ one) in
-    let long : length (take 1 line) ≡ 1 = length-take-le 1 line (omega (arith, before_within 32 line, is, one)) in
-    ap (is_letter letter) first
-    ∙ ap (λ t. t && eqb (get_or (take 1 line) 0 0) letter) (eq-eqb (length (take 1 line)) 1 long)
-    ∙ ap (λ x. eqb x letter) (get_or-take 1 line 0 0 (omega arith))
-
-pub no_letter : (line : List ℕ) (letter k : ℕ) → k ≡ bytes_before 32 line → (k ≡ 1 → ⊥) → is_letter letter (get_or (fields_of line) 0 []) ≡ false
-no_letter line letter k is other =
-    let first : get_or (fields_of line) 0 [] ≡ take k line =
-    ap (λ fs. get_or fs 0 []) (fields_first line).1 ∙ ap (λ n. take n line) (sym is) in
-    let long : length (take k line) ≡ k = length-take-le k line (omega (arith, before_within 32 line, is)) in
-    ap (is_letter letter) first
-    ∙ ap (λ t. t && eqb (get_or (take k line) 0 0) letter) (ne_eqb (length (take k line)) 1 (λ e. other (sym long ∙ e)))
-
--- a letter stands alone where the line has no other byte
-pub alone_is : (line : List ℕ) (k : ℕ) → k ≡ bytes_before 32 line → k ≡ 1 → eqb (length (fields_of line)) 1 ≡ eqb (length line) 1
-alone_is line k is one =
+-- a first field of one byte, or none before a first space
+spaced : (x : ℕ) (others fields : List (List ℕ)) → fields ≡ cond (eqb x 32) ([] ∷ [] ∷ others) ((x ∷ []) ∷ others) → (length others ≡ 0 → ⊥) → command_by x (numbers_in fields) false ≡ command_in fields
+spaced x others fields are some =
     ⊎_elim
-    (λ (e : length line ≡ 1).
-    let all : bytes_before 32 line ≡ length line = sym is ∙ one ∙ sym e in
-    ap (λ fs. eqb (length fs) 1) (fields_one line all) ∙ sym (eq-eqb (length line) 1 e))
-    (λ (more : length line ≡ 1 → ⊥).
-    let low : k < length line = omega (arith, before_within 32 line, is, one, more) in
-    let long : length (fields_of line) ≡ 1 → ⊥ = λ e. omega (arith, e, ap length (fields_next line k is low), fields_some (behind k line)) in
-    ne_eqb (length (fields_of line)) 1 long ∙ sym (ne_eqb (length line) 1 more))
-    (cases_eq (length line) 1)
+    (λ (e : eqb x 32 ≡ true).
+    let here : fields ≡ [] ∷ [] ∷ others = are ∙ ap (λ b. cond b ([] ∷ [] ∷ others) ((x ∷ []) ∷ others)) e in
+    let space : x ≡ 32 = eqb-true x 32 e in
+    ap (λ c. command_by c (numbers_in fields) false) space ∙ rw here (unknown ([] ∷ [] ∷ others) refl refl refl))
+    (λ (e : eqb x 32 ≡ false).
+    let here : fields ≡ (x ∷ []) ∷ others = are ∙ ap (λ b. cond b ([] ∷ [] ∷ others) ((x ∷ []) ∷ others)) e in
+    rw here (said ((x ∷ []) ∷ others) x false (λ c. refl) (ne_eqb (length ((x ∷ []) ∷ others)) 1 (λ e. some (omega (arith, e))))))
+    (cases_Bool (eqb x 32))
+
+-- there is a field
+some_in_front : (x : ℕ) (fields : List (List ℕ)) → length (in_front x fields) ≡ 0 → ⊥
+some_in_front x [] h = omega (arith, h)
+some_in_front x (field ∷ fields) h = omega (arith, h)
+
+some_fields : (line : List ℕ) → length (fields_of line) ≡ 0 → ⊥
+some_fields [] h = omega (arith, h)
+some_fields (x ∷ line) h =
+    ⊎_elim
+    (λ (e : eqb x 32 ≡ true). let z : length ([] ∷ fields_of line) ≡ 0 = rw e at h in omega (arith, z))
+    (λ (e : eqb x 32 ≡ false). some_in_front x (fields_of line) (rw e at h))
+    (cases_Bool (eqb x 32))
+
+-- a letter with a space behind it
+pub letter_spaced : (line : List ℕ) → 2 ≤ length line → get_or line 1 0 ≡ 32 → command_by (get_or line 0 0) (numbers_in (fields_of line)) false ≡ command_in (fields_of line)
+letter_spaced [] h space = absurd (omega (arith, h))
+letter_spaced (x ∷ []) h space = absurd (omega (arith, h))
+letter_spaced (x ∷ y ∷ line) h space = rw space (spaced x (fields_of line) (fields_of (x ∷ 32 ∷ line)) refl (some_fields line))

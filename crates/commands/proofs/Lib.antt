@@ -1,4 +1,5 @@
 pub mod Commanded
+pub mod Yielded
 pub mod Numbered
 pub mod Progress
 pub mod Splits

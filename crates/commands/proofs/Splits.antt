@@ -1,106 +1,81 @@
--- How input splits into lines, and a line into fields, by the place of the first byte that ends a piece.
-use Rattle.std.proofs.Common.{◌≡◌, ℕ, suc, ◌+◌, ◌-◌, ◌<◌, ◌≤◌, true, false, cond, eqb, List, [], ◌∷◌, length, get_or, take, drop, sym, refl, ap, ◌∙◌, ⊎_elim, add-one, arith}
-use Rattle.std.proofs.lemmas.List.{at_drop_more, at_drop_all, take_all, take_rest}
-use Rattle.std.proofs.lemmas.Bool.{cases_Bool, cases_lt, eq-eqb, ne_eqb}
-use Rattle.commands.specs.Lines.{in_front, lines_of, fields_of}
-use Rattle.commands.specs.Reading.{bytes_before}
+-- How input splits into lines, as `split_inclusive` gives them and `strip_suffix` takes their last byte off.
+use Rattle.std.proofs.Common.{◌≡◌, ℕ, suc, ◌+◌, ◌-◌, ◌<◌, ◌≤◌, min, true, false, cond, ◌&&◌, eqb, List, [], ◌∷◌, ◌++◌, length, get_or, take, drop, Some, None, Option, Bor, sym, refl, ap, ◌∙◌, ⊎_elim, append_assoc, append-nil, subst, arith, length-append}
+use Rattle.std.specs.List.{All, IsFirstMatchOrLen}
+use Rattle.std.specs.Option.{MatchOption, unwrap_or}
+use Rattle.std.proofs.Math.Seq.{drop-append_seam, take-append_seam}
+use Rattle.std.proofs.lemmas.Bool.{cases_lt, eqb-true, true≢false}
+use Rattle.std.proofs.lemmas.List.{nil_from_length, length-take-le, get_or-take}
+use Rattle.std.proofs.lemmas.Grind.{common_steps, take_at_read}
+use lib.Pointwise.{pointwise}
+use Rattle.commands.specs.Lines.{in_front, lines_of}
 
--- one byte in front, where it does not end the piece
-pub before_more : (c x : ℕ) (xs : List ℕ) → eqb x c ≡ false → bytes_before c (x ∷ xs) ≡ suc (bytes_before c xs)
-before_more c x xs e = ap (λ t. cond t 0 (suc (bytes_before c xs))) e
+-- no byte of these ends a line
+abbrev NoEnd : List ℕ → Type 0
+NoEnd xs = All (λ b. eqb b 10 ≡ false) xs
 
-pub before_here : (c x : ℕ) (xs : List ℕ) → eqb x c ≡ true → bytes_before c (x ∷ xs) ≡ 0
-before_here c x xs e = ap (λ t. cond t 0 (suc (bytes_before c xs))) e
+behind : (x : ℕ) (xs : List ℕ) → NoEnd (x ∷ xs) → NoEnd xs
+behind x xs none k d h = none (suc k) d (omega (arith, h))
 
--- there are at most as many bytes before the first stop as there are bytes
-pub before_within : (c : ℕ) (xs : List ℕ) → bytes_before c xs ≤ length xs
-before_within c [] = omega arith
-before_within c (x ∷ xs) =
+-- the first line, with a byte 10 behind it, and without one
+line_ended : (xs left : List ℕ) → NoEnd xs → lines_of (xs ++ 10 ∷ left) ≡ xs ∷ lines_of left
+line_ended [] left none = refl
+line_ended (x ∷ xs) left none =
+    let here : eqb x 10 ≡ false = none 0 0 (omega arith) in
+    let later : NoEnd xs = behind x xs none in
+    ap (λ b. cond b ([] ∷ lines_of (xs ++ 10 ∷ left)) (in_front x (lines_of (xs ++ 10 ∷ left)))) here ∙ ap (in_front x) (line_ended xs left later)
+
+line_last : (x : ℕ) (xs : List ℕ) → NoEnd (x ∷ xs) → lines_of (x ∷ xs) ≡ (x ∷ xs) ∷ []
+line_last x [] none = ap (λ b. cond b ([] ∷ []) (in_front x [])) (none 0 0 (omega arith))
+line_last x (y ∷ xs) none =
+    let later : NoEnd (y ∷ xs) = behind x (y ∷ xs) none in
+    ap (λ b. cond b ([] ∷ lines_of (y ∷ xs)) (in_front x (lines_of (y ∷ xs)))) (none 0 0 (omega arith)) ∙ ap (in_front x) (line_last y xs later)
+
+line_only : (xs : List ℕ) → 0 < length xs → NoEnd xs → lines_of xs ≡ xs ∷ []
+line_only [] some none = absurd (omega (arith, some))
+line_only (x ∷ xs) some none = line_last x xs none
+
+-- what `strip_suffix` says of the byte 10
+abbrev pub Stripped : List ℕ → Option (Bor (List ℕ)) → Type 0
+Stripped xs r =
+    MatchOption r (pointwise eqb (drop (length xs - 1) xs) (10 ∷ []) ≡ false)
+    (λ y. (pointwise eqb (drop (length xs - 1) xs) (10 ∷ []) ≡ true) × (y.now ≡ take (length xs - 1) xs) × (length y.now + 1 ≡ length xs))
+
+same_last : (xs : List ℕ) → drop (length (xs ++ 10 ∷ []) - 1) (xs ++ 10 ∷ []) ≡ 10 ∷ []
+same_last xs = ap (λ n. drop n (xs ++ 10 ∷ [])) (omega (arith, length-append xs (10 ∷ []))) ∙ drop-append_seam xs (10 ∷ [])
+
+same_front : (xs : List ℕ) → take (length (xs ++ 10 ∷ []) - 1) (xs ++ 10 ∷ []) ≡ xs
+same_front xs = ap (λ n. take n (xs ++ 10 ∷ [])) (omega (arith, length-append xs (10 ∷ []))) ∙ take-append_seam xs (10 ∷ [])
+
+-- a piece with a byte 10 at its end, and one without
+strip_ended : (xs ys : List ℕ) (r : Option (Bor (List ℕ))) (piece : Bor (List ℕ)) → ys ≡ xs ++ 10 ∷ [] → Stripped ys r → (unwrap_or r piece).now ≡ xs
+strip_ended xs ys None piece are h = absurd (true≢false (sym (ap (λ zs. pointwise eqb zs (10 ∷ [])) (ap (λ zs. drop (length zs - 1) zs) are ∙ same_last xs)) ∙ h))
+strip_ended xs ys (Some y) piece are h = h.1 ∙ ap (λ zs. take (length zs - 1) zs) are ∙ same_front xs
+
+strip_last : (ys : List ℕ) (r : Option (Bor (List ℕ))) (piece : Bor (List ℕ)) → 0 < length ys → NoEnd ys → Stripped ys r → piece.now ≡ ys → (unwrap_or r piece).now ≡ ys
+strip_last ys None piece some none h same = same
+strip_last ys (Some y) piece some none h same =
+    let last : drop (length ys - 1) ys ≡ get_or ys (length ys - 1) 0 ∷ [] = grind (arith, common_steps) in
+    let other : eqb (get_or ys (length ys - 1) 0) 10 ≡ false = none (length ys - 1) 0 (omega arith) in
+    absurd (true≢false (sym h.0 ∙ ap (λ zs. pointwise eqb zs (10 ∷ [])) last ∙ ap (λ b. b && true) other))
+
+-- the first line and the lines behind it
+pub line_first :
+    (rest left : List ℕ) (piece : Bor (List ℕ)) (r : Option (Bor (List ℕ))) (i : ℕ) → rest ≡ piece.now ++ left → length piece.now ≡ min (i + 1) (length rest)
+    → IsFirstMatchOrLen (λ b. eqb b 10) rest i → 0 < length rest → Stripped piece.now r
+    → lines_of rest ≡ (unwrap_or r piece).now ∷ lines_of left
+line_first rest left piece r i are long first some h =
     ⊎_elim
-    (λ (e : eqb x c ≡ true). omega (arith, before_here c x xs e))
-    (λ (e : eqb x c ≡ false). omega (arith, before_more c x xs e, before_within c xs))
-    (cases_Bool (eqb x c))
-
--- the first line and the lines behind it, where that is known one byte later
-split_from :
-    (x : ℕ) (xs : List ℕ) → in_front x (lines_of xs) ≡ (x ∷ take (bytes_before 10 xs) xs) ∷ lines_of (drop (suc (bytes_before 10 xs)) xs)
-    → lines_of (x ∷ xs) ≡ take (bytes_before 10 (x ∷ xs)) (x ∷ xs) ∷ lines_of (drop (suc (bytes_before 10 (x ∷ xs))) (x ∷ xs))
-split_from x xs h =
-    ⊎_elim
-    (λ (e : eqb x 10 ≡ true). rw e)
-    (λ (e : eqb x 10 ≡ false). rw e h)
-    (cases_Bool (eqb x 10))
-
-in_front_of : (x : ℕ) (xs : List ℕ) → in_front x (lines_of xs) ≡ (x ∷ take (bytes_before 10 xs) xs) ∷ lines_of (drop (suc (bytes_before 10 xs)) xs)
-in_front_of x [] = refl
-in_front_of x (y ∷ ys) = ap (in_front x) (split_from y ys (in_front_of y ys))
-
--- the first line, and the lines behind it
-pub lines_split :
-    (xs : List ℕ) → 0 < length xs → lines_of xs ≡ take (bytes_before 10 xs) xs ∷ lines_of (drop (suc (bytes_before 10 xs)) xs)
-lines_split [] h = absurd (omega (arith, h))
-lines_split (x ∷ xs) h = split_from x xs (in_front_of x xs)
-
--- a space ends the first field
-pub fields_split :
-    (xs : List ℕ) → bytes_before 32 xs < length xs → fields_of xs ≡ take (bytes_before 32 xs) xs ∷ fields_of (drop (suc (bytes_before 32 xs)) xs)
-fields_split [] h = absurd (omega (arith, h))
-fields_split (x ∷ xs) h =
-    ⊎_elim
-    (λ (e : eqb x 32 ≡ true). rw e)
-    (λ (e : eqb x 32 ≡ false).
-    let low : bytes_before 32 xs < length xs = omega (arith, h, before_more 32 x xs e) in
-    rw e (ap (in_front x) (fields_split xs low)))
-    (cases_Bool (eqb x 32))
-
--- without a space there is one field
-pub fields_one : (xs : List ℕ) → bytes_before 32 xs ≡ length xs → fields_of xs ≡ xs ∷ []
-fields_one [] h = refl
-fields_one (x ∷ xs) h =
-    ⊎_elim
-    (λ (e : eqb x 32 ≡ true). absurd (omega (arith, h, before_here 32 x xs e)))
-    (λ (e : eqb x 32 ≡ false).
-    let all : bytes_before 32 xs ≡ length xs = omega (arith, h, before_more 32 x xs e) in
-    rw e (ap (in_front x) (fields_one xs all)))
-    (cases_Bool (eqb x 32))
-
--- a turn of the search for the first stop, at the stop and at another byte, and the search past the end
-pub before_at_stop :
-    (c i : ℕ) (xs : List ℕ) → i < length xs → i + bytes_before c (drop i xs) ≡ bytes_before c xs → get_or xs i 0 ≡ c → i ≡ bytes_before c xs
-before_at_stop c i xs low inv here =
-    omega (arith, inv, at_drop_more (bytes_before c) xs i 0 low, before_here c (get_or xs i 0) (drop (i + 1) xs) (eq-eqb (get_or xs i 0) c here))
-
-pub before_at_other :
-    (c i : ℕ) (xs : List ℕ) → i < length xs → i + bytes_before c (drop i xs) ≡ bytes_before c xs → (get_or xs i 0 ≡ c → ⊥)
-    → i + 1 + bytes_before c (drop (i + 1) xs) ≡ bytes_before c xs
-before_at_other c i xs low inv other =
-    omega (arith, inv, at_drop_more (bytes_before c) xs i 0 low, before_more c (get_or xs i 0) (drop (i + 1) xs) (ne_eqb (get_or xs i 0) c other))
-
-pub before_all :
-    (c i : ℕ) (xs : List ℕ) → i ≡ length xs → i + bytes_before c (drop i xs) ≡ bytes_before c xs → length xs ≡ bytes_before c xs
-before_all c i xs all inv = omega (arith, inv, at_drop_all (bytes_before c) xs i (omega arith))
-
--- what lies behind a place and the byte there
-abbrev pub behind : ℕ → List ℕ → List ℕ
-behind k xs = take (length xs - (k + 1)) (drop (k + 1) xs)
-
--- a space ends the first field, and this is what lies behind it
-pub fields_next :
-    (xs : List ℕ) (k : ℕ) → k ≡ bytes_before 32 xs → k < length xs → fields_of xs ≡ take k xs ∷ fields_of (behind k xs)
-fields_next xs k is low =
-    let split : fields_of xs ≡ take k xs ∷ fields_of (drop (suc k) xs) = rw is (fields_split xs (omega (arith, is, low))) in
-    split ∙ ap (λ m. take k xs ∷ fields_of (drop m xs)) (sym (add-one k)) ∙ ap (λ ys. take k xs ∷ fields_of ys) (sym (take_rest xs (k + 1)))
-
--- the first field, whether or not a space ends it
-pub fields_first : (xs : List ℕ) → (rest : List (List ℕ)) × (fields_of xs ≡ take (bytes_before 32 xs) xs ∷ rest)
-fields_first xs =
-    ⊎_elim
-    (λ (low : bytes_before 32 xs < length xs). (fields_of (drop (suc (bytes_before 32 xs)) xs), fields_split xs low))
-    (λ (high : length xs ≤ bytes_before 32 xs).
-    let all : bytes_before 32 xs ≡ length xs = omega (arith, before_within 32 xs) in
-    ([], fields_one xs all ∙ ap (λ ys. ys ∷ []) (sym (take_all (bytes_before 32 xs) xs high))))
-    (cases_lt (bytes_before 32 xs) (length xs))
-
--- there is a field
-pub fields_some : (xs : List ℕ) → 0 < length (fields_of xs)
-fields_some xs = let first = fields_first xs in omega (arith, ap length first.1)
+    (λ (low : i < length rest).
+    let byte : get_or rest i 0 ≡ 10 = eqb-true (get_or rest i 0) 10 (first.1 low 0) in
+    let front : piece.now ≡ take (i + 1) rest = sym (ap (take (i + 1)) are ∙ ap (λ n. take n (piece.now ++ left)) (omega arith) ∙ take-append_seam piece.now left) in
+    let ended : piece.now ≡ take i rest ++ 10 ∷ [] = front ∙ (take_at_read rest i 0 low).1 ∙ ap (λ b. take i rest ++ b ∷ []) byte in
+    let none : NoEnd (take i rest) = λ k d l. let within : k < i = omega (arith, length-take-le i rest (omega arith)) in ap (λ b. eqb b 10) (get_or-take i rest k d within) ∙ first.0 k d (omega arith) within in
+    let whole : rest ≡ take i rest ++ 10 ∷ left = are ∙ ap (λ xs. xs ++ left) ended ∙ append_assoc (take i rest) (10 ∷ []) left in
+    ap lines_of whole ∙ line_ended (take i rest) left none ∙ ap (λ xs. xs ∷ lines_of left) (sym (strip_ended (take i rest) piece.now r piece ended h)))
+    (λ (high : length rest ≤ i).
+    let nothing : left ≡ [] = nil_from_length left (omega (arith, ap length are, length-append piece.now left)) in
+    let same : rest ≡ piece.now = are ∙ ap (λ xs. piece.now ++ xs) nothing ∙ append-nil piece.now in
+    let none : NoEnd rest = λ k d l. first.0 k d (omega arith) (omega arith) in
+    let stripped : (unwrap_or r piece).now ≡ rest = strip_last rest r piece some none (subst (λ xs. Stripped xs r) (sym same) h) (sym same) in
+    line_only rest some none ∙ (λ j. sym stripped j ∷ lines_of (sym nothing j)))
+    (cases_lt i (length rest))

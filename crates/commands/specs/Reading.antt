@@ -1,14 +1,8 @@
 -- What the parts of reading commands give.
-use Rattle.std.specs.Prelude.{◌≡◌, ℕ, suc, ◌+◌, ◌<◌, ◌≤◌, Bool, cond, ◌&&◌, List, [], ◌∷◌, ◌++◌, length, take, drop, Some, None, Option, ◌==◌, slice_index_or, slice_range}
+use Rattle.std.specs.Prelude.{◌≡◌, ℕ, ◌+◌, ◌<◌, ◌≤◌, Bool, cond, ◌&&◌, List, [], ◌++◌, length, take, drop, Some, None, Option, ◌==◌, slice_index_or}
 use Rattle.commands.specs.declared.command.Command.{Command}
 use Rattle.commands.specs.declared.command.Command.TheVariants.{Add, Strike, Load, Unknown}
-use Rattle.commands.specs.Lines.{lines_of}
 use Rattle.commands.specs.Commands.{all_digits, read_on, is_number, number_in, commands_of}
-
--- how many bytes stand before the first of these
-abbrev pub bytes_before : ℕ → List ℕ → ℕ
-bytes_before c [] = 0
-bytes_before c (x ∷ rest) = cond (x == c) 0 (suc (bytes_before c rest))
 
 -- the number that a field says, if it is one
 abbrev pub number_of : List ℕ → Option ℕ
@@ -27,13 +21,6 @@ pub record NumberSoFar (field : List ℕ) (i number : ℕ) : Type 0 where
   pub one_read : i ≤ 1 → number ≤ 9
   pub two_read : i ≤ 2 → number ≤ 99
 
--- a line of the input, from its first byte to its end
-pub record LineOf (input : List ℕ) (at end : ℕ) : Type 0 where
-  pub begins : at < length input
-  pub forward : at ≤ end
-  pub inside : end ≤ length input
-  pub lines_left : lines_of (drop at input) ≡ slice_range input at end ∷ lines_of (drop (end + 1) input)
-
 -- the command that is made of two numbers, if they are there
 abbrev pub made_of : (ℕ → ℕ → Command) → Option (ℕ × ℕ) → Command
 made_of make None = Unknown
@@ -44,17 +31,17 @@ abbrev pub command_by : ℕ → Option (ℕ × ℕ) → Bool → Command
 command_by letter numbers alone =
     cond (letter == 97) (made_of Add numbers) (cond (letter == 115) (made_of Strike numbers) (cond (letter == 112 && alone) Load Unknown))
 
--- input is read up to a place, and its first commands stand; what lies behind them is untouched
-pub record SoFar (input : List ℕ) (was : List Command) (at count : ℕ) (became : List Command) : Type 0 where
-  pub no_more : count ≤ at
-  pub few : count ≤ length input
-  pub left_over : take count became ++ commands_of (drop at input) ≡ commands_of input
+-- the input is read up to the rest, and its first commands stand; what lies behind them is untouched
+pub record SoFar (input rest : List ℕ) (was : List Command) (count : ℕ) (became : List Command) : Type 0 where
+  pub few : count + length rest ≤ length input
+  pub left_over : take count became ++ commands_of rest ≡ commands_of input
   pub as_long : length became ≡ length was
   pub behind : drop count became ≡ drop count was
 
--- there might not be a place for each line, and nothing is touched
-pub record Refused (input : List ℕ) (was became : List Command) : Type 0 where
+-- there might not be a place for each line, which is told with the places needed, and nothing is touched
+pub record Refused (input : List ℕ) (was became : List Command) (needed : ℕ) : Type 0 where
   pub too_short : length was < length input
+  pub tells : needed ≡ length input
   pub untouched : became ≡ was
 
 -- n commands were read, those of the input; what lies behind them is untouched

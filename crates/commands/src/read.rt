@@ -1,24 +1,23 @@
 // Reading commands.
-ghost use Rattle.std.specs.Prelude.{◌≡◌, ◌<◌, length, MatchOption};
+ghost use Rattle.std.specs.Prelude.{◌≡◌, MatchResult};
 ghost use Rattle.commands.specs.Commands.{command_of};
-ghost use Rattle.commands.specs.Reading.{LineOf, command_by, Refused, Read};
+ghost use Rattle.commands.specs.Reading.{command_by, Refused, Read};
 
 use crate::command::Command;
-use crate::fields::{length_before, read_numbers};
+use crate::fields::read_numbers;
+use plan::TooShort;
 
 // The command of a letter, from the two numbers behind it, if they are there, and from whether it stands alone.
 fn command_by(letter: u8, numbers: Option<(usize, usize)>, alone: bool) -> Command
     ensures { result ≡ command_by letter numbers alone }
 {
     match letter as char {
-        'a' => match numbers {
-            Some((first, second)) => Command::Add(first, second),
-            None => Command::Unknown,
-        },
-        's' => match numbers {
-            Some((first, second)) => Command::Strike(first, second),
-            None => Command::Unknown,
-        },
+        'a' => numbers.map_or(Command::Unknown, |(first, second)| {
+            Command::Add(first, second)
+        }),
+        's' => numbers.map_or(Command::Unknown, |(first, second)| {
+            Command::Strike(first, second)
+        }),
         'p' if alone => Command::Load,
         _ => Command::Unknown,
     }
@@ -28,35 +27,27 @@ fn command_by(letter: u8, numbers: Option<(usize, usize)>, alone: bool) -> Comma
 fn read_command(line: &[u8]) -> Command
     ensures { result ≡ command_of line.now }
 {
-    if length_before(line, b' ') != 1 {
-        return Command::Unknown;
+    match line {
+        [letter] => command_by(*letter, None, true),
+        [letter, b' ', ..] => command_by(*letter, read_numbers(line), false),
+        _ => Command::Unknown,
     }
-    command_by(line[0], read_numbers(line), line.len() == 1)
 }
 
-// Where the line that begins at this place ends.
-fn line_end(input: &[u8], at: usize) -> usize
-    requires { at < length input.now }
-    ensures { LineOf input.now at result }
-{
-    at + length_before(&input[at..], b'\n')
-}
-
-// Reads the input line by line, and writes the command of each line into the lent slice. Gives how many there are. None, and
+// Reads the input line by line, and writes the command of each line into the lent slice. Gives how many there are. Refused, and
 // nothing touched, where the slice is shorter than the input, so that there might not be a place for each line.
-pub fn read_commands(input: &[u8], commands: &mut [Command]) -> Option<usize>
-    ensures { MatchOption result (Refused input.now commands.old commands.new) (Read input.now commands.old commands.new) }
+pub fn read_commands(input: &[u8], commands: &mut [Command]) -> Result<usize, TooShort>
+    ensures { MatchResult result (Read input.now commands.old commands.new) (λ e. Refused input.now commands.old commands.new e.needed) }
 {
     if commands.len() < input.len() {
-        return None;
+        return Err(TooShort {
+            needed: input.len(),
+        });
     }
     let mut count = 0;
-    let mut at = 0;
-    while at < input.len() {
-        let end = line_end(input, at);
-        commands[count] = read_command(&input[at..end]);
+    for line in input.split_inclusive(|byte| *byte == b'\n') {
+        commands[count] = read_command(line.strip_suffix(b"\n").unwrap_or(line));
         count += 1;
-        at = end + 1;
     }
-    Some(count)
+    Ok(count)
 }

@@ -1,55 +1,57 @@
-use Rattle.std.proofs.Common.{◌∙◌}
-use Rattle.commands.proofs.Numbered.{one_field, two_fields, two_split, three_fields, four_fields, first_refused, second_refused, both_read}
+use Rattle.std.proofs.Common.{rules, tests, ◌∙◌}
+use Rattle.commands.proofs.Yielded.{fields_yielded, next_some, next_none}
+use Rattle.commands.proofs.Numbered.{one_field, first_refused, two_fields, three, second_refused, four_fields, both_read}
 use Rattle.commands.proofs.fields.read_numbers.Goals as goal
 
-pub returns-then-letter-line : goal.returns-then-letter-line
-returns-then-letter-line c =
-    one_field c.args.line.now c.length_before-letter.result c.length_before-letter.ensures.before c.if-letter-line.true
+pub returns-in_err-next : goal.returns-in_err-next
+returns-in_err-next c =
+    let split = c.split-fields.ensures in
+    let letter = next_some (fields_yielded _ c.split-fields.result c.args.line.now split.rest split.done split.closure (λ x b q k. search (rules, tests)))
+    c.in_ok-_letter._letter c.next.new.self c.in_ok-_letter.ensures.steps in
+    c.from_residual-in_err-next.ensures ∙ one_field _ _ _ letter.1 (next_none letter.2 c.next-2.new.self c.in_err-next.ensures.steps)
 
-pub returns-then-first-numbers : goal.returns-then-first-numbers
-returns-then-first-numbers c =
-    let letter = c.length_before-letter in
-    let first = c.length_before-first in
-    two_fields c.args.line.now letter.result first.result letter.ensures.before letter.ensures.within c.if-letter-line.false
-    first.ensures.before c.if-first-numbers.true
+pub returns-in_err-first : goal.returns-in_err-first
+returns-in_err-first c =
+    let split = c.split-fields.ensures in
+    let letter = next_some (fields_yielded _ c.split-fields.result c.args.line.now split.rest split.done split.closure (λ x b q k. search (rules, tests)))
+    c.in_ok-_letter._letter c.next.new.self c.in_ok-_letter.ensures.steps in
+    let first = next_some letter.2 c.in_ok-next.field-0 c.next-2.new.self c.in_ok-next.ensures.steps in
+    c.from_residual-in_err-first.ensures ∙ first_refused _ _ _ _ _ letter.1 first.1 c.in_err-first.ensures
 
-pub returns-then-length_before-second : goal.returns-then-length_before-second
-returns-then-length_before-second c =
-    let letter = c.length_before-letter in
-    let first = c.length_before-first in
-    let split =
-    two_split c.args.line.now letter.result first.result letter.ensures.before letter.ensures.within c.if-letter-line.false
-    first.ensures.before first.ensures.within c.if-first-numbers.false in
-    four_fields c.args.line.now _ _ _ c.length_before.result split c.length_before.ensures.before c.if-length_before-second.true
+pub returns-in_err-next-2 : goal.returns-in_err-next-2
+returns-in_err-next-2 c =
+    let split = c.split-fields.ensures in
+    let letter = next_some (fields_yielded _ c.split-fields.result c.args.line.now split.rest split.done split.closure (λ x b q k. search (rules, tests)))
+    c.in_ok-_letter._letter c.next.new.self c.in_ok-_letter.ensures.steps in
+    let first = next_some letter.2 c.in_ok-next.field-0 c.next-2.new.self c.in_ok-next.ensures.steps in
+    c.from_residual-in_err-next-2.ensures ∙ two_fields _ _ _ _ _ letter.1 first.1 (next_none first.2 c.next-3.new.self c.in_err-next-2.ensures.steps)
 
-pub returns-in_err-read_number : goal.returns-in_err-read_number
-returns-in_err-read_number c =
-    let letter = c.length_before-letter in
-    let first = c.length_before-first in
-    let split =
-    two_split c.args.line.now letter.result first.result letter.ensures.before letter.ensures.within c.if-letter-line.false
-    first.ensures.before first.ensures.within c.if-first-numbers.false in
-    c.from_residual.ensures
-    ∙ first_refused _ _ _ _ c.in_err-read_number.ensures
-    ∙ three_fields c.args.line.now _ _ _ c.length_before.result split c.length_before.ensures.before c.length_before.ensures.within c.if-length_before-second.false
+pub returns-in_err-second : goal.returns-in_err-second
+returns-in_err-second c =
+    let split = c.split-fields.ensures in
+    let letter = next_some (fields_yielded _ c.split-fields.result c.args.line.now split.rest split.done split.closure (λ x b q k. search (rules, tests)))
+    c.in_ok-_letter._letter c.next.new.self c.in_ok-_letter.ensures.steps in
+    let first = next_some letter.2 c.in_ok-next.field-0 c.next-2.new.self c.in_ok-next.ensures.steps in
+    let second = next_some first.2 c.in_ok-next-2.field-0 c.next-3.new.self c.in_ok-next-2.ensures.steps in
+    let fields = three _ _ _ _ _ _ _ letter.1 first.1 second.1 in
+    c.from_residual-in_err-second.ensures ∙ second_refused _ _ _ _ fields c.in_err-second.ensures
 
-pub returns-in_err-read_number-2 : goal.returns-in_err-read_number-2
-returns-in_err-read_number-2 c =
-    let letter = c.length_before-letter in
-    let first = c.length_before-first in
-    let split =
-    two_split c.args.line.now letter.result first.result letter.ensures.before letter.ensures.within c.if-letter-line.false
-    first.ensures.before first.ensures.within c.if-first-numbers.false in
-    c.from_residual-in_err-read_number-2.ensures
-    ∙ second_refused _ _ _ _ c.in_err-read_number-2.ensures
-    ∙ three_fields c.args.line.now _ _ _ c.length_before.result split c.length_before.ensures.before c.length_before.ensures.within c.if-length_before-second.false
+pub returns-in-Some : goal.returns-in-Some
+returns-in-Some c =
+    let split = c.split-fields.ensures in
+    let letter = next_some (fields_yielded _ c.split-fields.result c.args.line.now split.rest split.done split.closure (λ x b q k. search (rules, tests)))
+    c.in_ok-_letter._letter c.next.new.self c.in_ok-_letter.ensures.steps in
+    let first = next_some letter.2 c.in_ok-next.field-0 c.next-2.new.self c.in_ok-next.ensures.steps in
+    let second = next_some first.2 c.in_ok-next-2.field-0 c.next-3.new.self c.in_ok-next-2.ensures.steps in
+    let fields = three _ _ _ _ _ _ _ letter.1 first.1 second.1 in
+    four_fields _ _ _ _ _ _ fields (next_some second.2 c.in-Some.field-0 c.next-4.new.self c.in-Some.ensures.steps).1
 
-pub returns : goal.returns
-returns c =
-    let letter = c.length_before-letter in
-    let first = c.length_before-first in
-    let split =
-    two_split c.args.line.now letter.result first.result letter.ensures.before letter.ensures.within c.if-letter-line.false
-    first.ensures.before first.ensures.within c.if-first-numbers.false in
-    both_read _ _ _ _ _ _ c.in_ok-read_number.ensures c.in_ok-read_number-2.ensures
-    ∙ three_fields c.args.line.now _ _ _ c.length_before.result split c.length_before.ensures.before c.length_before.ensures.within c.if-length_before-second.false
+pub returns-in-None : goal.returns-in-None
+returns-in-None c =
+    let split = c.split-fields.ensures in
+    let letter = next_some (fields_yielded _ c.split-fields.result c.args.line.now split.rest split.done split.closure (λ x b q k. search (rules, tests)))
+    c.in_ok-_letter._letter c.next.new.self c.in_ok-_letter.ensures.steps in
+    let first = next_some letter.2 c.in_ok-next.field-0 c.next-2.new.self c.in_ok-next.ensures.steps in
+    let second = next_some first.2 c.in_ok-next-2.field-0 c.next-3.new.self c.in_ok-next-2.ensures.steps in
+    let fields = three _ _ _ _ _ _ _ letter.1 first.1 second.1 in
+    both_read _ _ _ _ _ _ fields (next_none second.2 c.next-4.new.self c.in-None.ensures.steps) c.in_ok-first.ensures c.in_ok-second.ensures
