@@ -10,11 +10,9 @@ ghost use Rattle.fitting.specs.Covering.{Covers};
 use crate::covering::Covering;
 use crate::misfit::{Incomparable, Misfit};
 use pairs::PairTable;
-use plan::{Plan, Side};
-use rules::{Rule, lowest_refused};
+use plan::{MOST_STATES, Plan, Side};
+use rules::{Compared, Rule};
 use vet::{Finding, Vetted};
-
-const STATES: usize = 128;
 
 // Is the plan of this side sound?
 fn require_sound<P: Plan>(side: Side, plan: &Vetted<P>) -> Result<(), Incomparable>
@@ -32,7 +30,8 @@ pub fn compare_plans<A: Plan, B: Plan>(
     first: &Vetted<A>,
     second: &Vetted<B>,
 ) -> Result<(), Incomparable>
-    requires { (Finds (A.meaning first.now.plan) first.now.finding) × (Finds (B.meaning second.now.plan) second.now.finding) }
+    requires first_found { Finds (A.meaning first.now.plan) first.now.finding }
+    requires second_found { Finds (B.meaning second.now.plan) second.now.finding }
     ensures { MatchResult result (λ _. Comparable (A.meaning first.now.plan) (B.meaning second.now.plan)) (PlansRefused (A.meaning first.now.plan) (B.meaning second.now.plan)) }
 {
     require_sound(Side::First, first)?;
@@ -46,18 +45,17 @@ pub fn compare_plans<A: Plan, B: Plan>(
 
 // The refusal of the first pair that is not acceptable.
 fn first_unacceptable<A: Plan, B: Plan, R: Rule>(
-    first: &A,
-    second: &B,
-    rule: &R,
+    compared: &Compared<'_, A, B, R>,
     pairs: &PairTable,
 ) -> Option<Misfit>
-    requires { ((A.meaning first.now).channels ≡ (B.meaning second.now).channels) × (OnlyMarked (A.meaning first.now) (B.meaning second.now) (kept_pairs pairs.now)) }
-    ensures { MatchOption result (AllAcceptable (A.meaning first.now) (B.meaning second.now) (R.says rule.now) (kept_pairs pairs.now)) (λ m. NamesUnacceptable (A.meaning first.now) (B.meaning second.now) (R.says rule.now) (kept_pairs pairs.now) (Err m)) }
+    requires as_many { (A.meaning compared.now.first.now).channels ≡ (B.meaning compared.now.second.now).channels }
+    requires only_marked { OnlyMarked (A.meaning compared.now.first.now) (B.meaning compared.now.second.now) (kept_pairs pairs.now) }
+    ensures { MatchOption result (AllAcceptable (A.meaning compared.now.first.now) (B.meaning compared.now.second.now) (R.says compared.now.rule.now) (kept_pairs pairs.now)) (λ m. NamesUnacceptable (A.meaning compared.now.first.now) (B.meaning compared.now.second.now) (R.says compared.now.rule.now) (kept_pairs pairs.now) (Err m)) }
 {
-    for s in 0..first.states() {
-        for t in 0..second.states() {
+    for s in 0..compared.first.states() {
+        for t in 0..compared.second.states() {
             if pairs.stands(s, t) {
-                if let Some(channel) = lowest_refused(first, second, rule, s, t) {
+                if let Some(channel) = compared.lowest_refused(s, t) {
                     return Some(Misfit::Unacceptable {
                         first: s,
                         second: t,
@@ -72,21 +70,21 @@ fn first_unacceptable<A: Plan, B: Plan, R: Rule>(
 
 // The refusal of the first closing that is not covered: pairs in ascending order, the first side before the second, the lowest
 // closing first.
-fn first_uncovered<A: Plan, B: Plan>(
-    first: &A,
-    second: &B,
+fn first_uncovered<A: Plan, B: Plan, R: Rule>(
+    compared: &Compared<'_, A, B, R>,
     pairs: &PairTable,
     covering: &Covering,
 ) -> Option<Misfit>
-    requires { (Covers (A.meaning first.now) (B.meaning second.now) (kept_pairs pairs.now) covering.now) × (OnlyMarked (A.meaning first.now) (B.meaning second.now) (kept_pairs pairs.now)) }
-    ensures { MatchOption result (AllCovered (A.meaning first.now) (B.meaning second.now) (kept_pairs pairs.now)) (λ m. NamesUncovered (A.meaning first.now) (B.meaning second.now) (kept_pairs pairs.now) (Err m)) }
+    requires covers { Covers (A.meaning compared.now.first.now) (B.meaning compared.now.second.now) (kept_pairs pairs.now) covering.now }
+    requires only_marked { OnlyMarked (A.meaning compared.now.first.now) (B.meaning compared.now.second.now) (kept_pairs pairs.now) }
+    ensures { MatchOption result (AllCovered (A.meaning compared.now.first.now) (B.meaning compared.now.second.now) (kept_pairs pairs.now)) (λ m. NamesUncovered (A.meaning compared.now.first.now) (B.meaning compared.now.second.now) (kept_pairs pairs.now) (Err m)) }
 {
     'pairs: {
-        for s in 0..first.states() {
-            for t in 0..second.states() {
+        for s in 0..compared.first.states() {
+            for t in 0..compared.second.states() {
                 if pairs.stands(s, t) {
                     for side in [Side::First, Side::Second] {
-                        for closing in 0..STATES {
+                        for closing in 0..MOST_STATES {
                             if covering.is_uncovered(side, s, t, closing) {
                                 break 'pairs Some(Misfit::Uncovered {
                                     side,
@@ -106,24 +104,22 @@ fn first_uncovered<A: Plan, B: Plan>(
 
 // Puts the questions to the pairs.
 fn judge_pairs<A: Plan, B: Plan, R: Rule>(
-    first: &A,
-    second: &B,
-    rule: &R,
+    compared: &Compared<'_, A, B, R>,
     pairs: &PairTable,
 ) -> Result<usize, Misfit>
-    requires as_many { (A.meaning first.now).channels ≡ (B.meaning second.now).channels }
-    requires only_marked { OnlyMarked (A.meaning first.now) (B.meaning second.now) (kept_pairs pairs.now) }
-    ensures { PairsAsked (A.meaning first.now) (B.meaning second.now) (R.says rule.now) (kept_pairs pairs.now) result }
+    requires as_many { (A.meaning compared.now.first.now).channels ≡ (B.meaning compared.now.second.now).channels }
+    requires only_marked { OnlyMarked (A.meaning compared.now.first.now) (B.meaning compared.now.second.now) (kept_pairs pairs.now) }
+    ensures { PairsAsked (A.meaning compared.now.first.now) (B.meaning compared.now.second.now) (R.says compared.now.rule.now) (kept_pairs pairs.now) result }
 {
-    if !pairs.stands(first.start(), second.start()) {
+    if !pairs.stands(compared.first.start(), compared.second.start()) {
         return Err(Misfit::StartsApart);
     }
-    if let Some(misfit) = first_unacceptable(first, second, rule, pairs) {
+    if let Some(misfit) = first_unacceptable(compared, pairs) {
         return Err(misfit);
     }
-    let covering = Covering::of(first, second, pairs);
+    let covering = Covering::of(compared, pairs);
     let count = pairs.count();
-    match first_uncovered(first, second, pairs, &covering) {
+    match first_uncovered(compared, pairs, &covering) {
         Some(misfit) => Err(misfit),
         None => Ok(count),
     }
@@ -145,5 +141,10 @@ pub fn judge<A: Plan, B: Plan, R: Rule>(
     ensures agrees { is_ok result ≡ true → Agree (A.meaning first.now.plan) (B.meaning second.now.plan) (R.says rule.now) }
 {
     compare_plans(first, second)?;
-    judge_pairs(first.plan(), second.plan(), rule, pairs)
+    let compared = Compared {
+        first: first.plan(),
+        second: second.plan(),
+        rule,
+    };
+    judge_pairs(&compared, pairs)
 }

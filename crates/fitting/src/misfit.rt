@@ -3,7 +3,7 @@ ghost use Rattle.std.specs.Prelude.{◌≡◌};
 ghost use Rattle.fitting.specs.Numbers.{incomparable_numbers, misfit_numbers};
 ghost use Rattle.fitting.specs.declared.misfit.Misfit.TheVariants.{Plans};
 
-use plan::{Answer, Side};
+use plan::{Answer, Outcome, Side};
 use vet::Finding;
 
 // Why two plans are not compared at all.
@@ -37,26 +37,24 @@ pub enum Misfit {
     },
 }
 
-impl Incomparable {
-    // The five numbers of this refusal.
-    pub fn answer(self) -> Answer
-        ensures { result ≡ incomparable_numbers self }
-    {
+impl Outcome for Incomparable {
+    ghost numbers = { incomparable_numbers };
+
+    fn answer(&self) -> Answer {
         match self {
             Incomparable::Unsound(side, finding) => {
                 let found = finding.answer();
                 Answer::refusal(15, side.number(), found.number, found.p)
             }
-            Incomparable::Channels(p, q) => Answer::refusal(16, 0, p, q),
+            Incomparable::Channels(p, q) => Answer::refusal(16, 0, *p, *q),
         }
     }
 }
 
-impl Misfit {
-    // The five numbers of this refusal.
-    pub fn answer(self) -> Answer
-        ensures { result ≡ misfit_numbers self }
-    {
+impl Outcome for Misfit {
+    ghost numbers = { misfit_numbers };
+
+    fn answer(&self) -> Answer {
         match self {
             Misfit::Plans(refused) => refused.answer(),
             Misfit::StartsApart => Answer::refusal(17, 0, 0, 0),
@@ -67,9 +65,9 @@ impl Misfit {
             } => Answer {
                 number: 18,
                 side: 0,
-                p: first,
-                q: second,
-                r: channel,
+                p: *first,
+                q: *second,
+                r: *channel,
             },
             Misfit::Uncovered {
                 side,
@@ -79,9 +77,9 @@ impl Misfit {
             } => Answer {
                 number: 19,
                 side: side.number(),
-                p: first,
-                q: second,
-                r: closing,
+                p: *first,
+                q: *second,
+                r: *closing,
             },
         }
     }

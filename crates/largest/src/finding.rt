@@ -12,21 +12,21 @@ use closings::next_closings;
 use fitting::compare_plans;
 use pairs::PairTable;
 use plan::Plan;
-use rules::Rule;
+use rules::{Compared, Rule};
 use vet::Vetted;
 
 // Goes through the rounds until one changes nothing: then what is left is covered, and no pair of a fitting set was ever struck.
-fn refine<A: Plan, B: Plan, R: Rule>(first: &A, second: &B, rule: &R) -> Result<PairTable, NoFit>
-    requires { (A.meaning first.now).channels ≡ (B.meaning second.now).channels }
-    ensures { FitAsked (A.meaning first.now) (B.meaning second.now) (R.says rule.now) (kept_result result) }
+fn refine<A: Plan, B: Plan, R: Rule>(compared: &Compared<'_, A, B, R>) -> Result<PairTable, NoFit>
+    requires { (A.meaning compared.now.first.now).channels ≡ (B.meaning compared.now.second.now).channels }
+    ensures { FitAsked (A.meaning compared.now.first.now) (B.meaning compared.now.second.now) (R.says compared.now.rule.now) (kept_result result) }
 {
     let next = Closings {
-        first: next_closings(first),
-        second: next_closings(second),
+        first: next_closings(compared.first),
+        second: next_closings(compared.second),
     };
-    let mut pairs = compatible_pairs(first, second, rule);
+    let mut pairs = compatible_pairs(compared);
     while next_round(&next, &mut pairs) {}
-    if pairs.stands(first.start(), second.start()) {
+    if pairs.stands(compared.first.start(), compared.second.start()) {
         Ok(pairs)
     } else {
         Err(NoFit::NoneFits)
@@ -46,5 +46,10 @@ pub fn find_largest<A: Plan, B: Plan, R: Rule>(
     ensures shallow { NoneFitsMeans (A.meaning first.now.plan) (B.meaning second.now.plan) (R.says rule.now) }
 {
     compare_plans(first, second)?;
-    refine(first.plan(), second.plan(), rule)
+    let compared = Compared {
+        first: first.plan(),
+        second: second.plan(),
+        rule,
+    };
+    refine(&compared)
 }

@@ -9,36 +9,32 @@ ghost use Rattle.largest.specs.Rounds.{Round};
 
 use pairs::PairTable;
 use plan::Plan;
-use rules::{Rule, lowest_refused};
+use rules::{Compared, Rule};
 
 // Does the rule accept the codes of these two states on every channel?
 fn is_acceptable<A: Plan, B: Plan, R: Rule>(
-    first: &A,
-    second: &B,
-    rule: &R,
+    compared: &Compared<'_, A, B, R>,
     s: usize,
     t: usize,
 ) -> bool
-    requires { (A.meaning first.now).channels ≡ (B.meaning second.now).channels }
-    ensures { Decides result (Acceptable (A.meaning first.now) (B.meaning second.now) (R.says rule.now) s t) }
+    requires { (A.meaning compared.now.first.now).channels ≡ (B.meaning compared.now.second.now).channels }
+    ensures { Decides result (Acceptable (A.meaning compared.now.first.now) (B.meaning compared.now.second.now) (R.says compared.now.rule.now) s t) }
 {
-    lowest_refused(first, second, rule, s, t).is_none()
+    compared.lowest_refused(s, t).is_none()
 }
 
 // Puts in the pairs of this closing with the closings that the rule accepts beside it.
 fn put_compatible<A: Plan, B: Plan, R: Rule>(
-    first: &A,
-    second: &B,
-    rule: &R,
+    compared: &Compared<'_, A, B, R>,
     s: usize,
     pairs: &mut PairTable,
 )
-    requires as_many { (A.meaning first.now).channels ≡ (B.meaning second.now).channels }
-    requires marked { Marked (A.meaning first.now) s }
-    ensures { RowAdded (Compatible (A.meaning first.now) (B.meaning second.now) (R.says rule.now)) s (B.meaning second.now).states (kept_pairs pairs.old) (kept_pairs pairs.new) }
+    requires as_many { (A.meaning compared.now.first.now).channels ≡ (B.meaning compared.now.second.now).channels }
+    requires marked { Marked (A.meaning compared.now.first.now) s }
+    ensures { RowAdded (Compatible (A.meaning compared.now.first.now) (B.meaning compared.now.second.now) (R.says compared.now.rule.now)) s (B.meaning compared.now.second.now).states (kept_pairs pairs.old) (kept_pairs pairs.new) }
 {
-    for t in 0..second.states() {
-        if second.marked(t) && is_acceptable(first, second, rule, s, t) {
+    for t in 0..compared.second.states() {
+        if compared.second.marked(t) && is_acceptable(compared, s, t) {
             pairs.put(s, t);
         }
     }
@@ -46,17 +42,15 @@ fn put_compatible<A: Plan, B: Plan, R: Rule>(
 
 // All pairs of closings that the rule accepts.
 pub(crate) fn compatible_pairs<A: Plan, B: Plan, R: Rule>(
-    first: &A,
-    second: &B,
-    rule: &R,
+    compared: &Compared<'_, A, B, R>,
 ) -> PairTable
-    requires { (A.meaning first.now).channels ≡ (B.meaning second.now).channels }
-    ensures { Round (A.meaning first.now) (B.meaning second.now) (R.says rule.now) 0 (kept_pairs result) }
+    requires { (A.meaning compared.now.first.now).channels ≡ (B.meaning compared.now.second.now).channels }
+    ensures { Round (A.meaning compared.now.first.now) (B.meaning compared.now.second.now) (R.says compared.now.rule.now) 0 (kept_pairs result) }
 {
     let mut pairs = PairTable::empty();
-    for s in 0..first.states() {
-        if first.marked(s) {
-            put_compatible(first, second, rule, s, &mut pairs);
+    for s in 0..compared.first.states() {
+        if compared.first.marked(s) {
+            put_compatible(compared, s, &mut pairs);
         }
     }
     pairs

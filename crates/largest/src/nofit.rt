@@ -4,7 +4,7 @@ ghost use Rattle.largest.specs.Finding.{no_fit_numbers};
 ghost use Rattle.largest.specs.declared.nofit.NoFit.TheVariants.{Plans};
 
 use fitting::Incomparable;
-use plan::Answer;
+use plan::{Answer, Outcome};
 
 #[derive(Clone, Copy, PartialEq, Eq, Debug)]
 pub enum NoFit {
@@ -14,11 +14,10 @@ pub enum NoFit {
     NoneFits,
 }
 
-impl NoFit {
-    // The five numbers of this refusal.
-    pub fn answer(self) -> Answer
-        ensures { result ≡ no_fit_numbers self }
-    {
+impl Outcome for NoFit {
+    ghost numbers = { no_fit_numbers };
+
+    fn answer(&self) -> Answer {
         match self {
             NoFit::Plans(refused) => refused.answer(),
             NoFit::NoneFits => Answer::refusal(20, 0, 0, 0),

@@ -5,8 +5,7 @@ ghost use Rattle.largest.specs.Sweeping.{CoveredIn, MatchedBy, RowSwept, Swept, 
 
 use closings::covered_by;
 use pairs::PairTable;
-
-const STATES: usize = 128;
+use plan::MOST_STATES;
 
 // A table of closings for each plan.
 #[derive(Drop)]
@@ -28,7 +27,7 @@ fn strike_row(next: &Closings, covered: &Closings, s: usize, pairs: &mut PairTab
     ensures tells { Tells result (kept_pairs pairs.old) (kept_pairs pairs.new) }
 {
     let mut struck = false;
-    for t in 0..STATES {
+    for t in 0..MOST_STATES {
         if pairs.stands(s, t) && !is_covered(next, covered, s, t) {
             pairs.strike(s, t);
             struck = true;
@@ -47,7 +46,7 @@ pub(crate) fn next_round(next: &Closings, pairs: &mut PairTable) -> bool
         second: covered_by(&next.first, &pairs.transposed()),
     };
     let mut struck = false;
-    for s in 0..STATES {
+    for s in 0..MOST_STATES {
         struck |= strike_row(next, &covered, s, pairs);
     }
     struck

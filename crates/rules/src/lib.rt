@@ -8,7 +8,7 @@ mod exact;
 mod fault;
 mod listed;
 
-pub use accept::lowest_refused;
+pub use accept::Compared;
 pub use exact::Exact;
 pub use fault::Fault;
 pub use listed::{CodePair, Listed};

@@ -7,14 +7,18 @@ use super::Covering;
 use closings::{covered_by, next_closings};
 use pairs::PairTable;
 use plan::{Plan, Side};
+use rules::{Compared, Rule};
 
 impl Covering {
     // The tables of two plans and a set of pairs.
-    pub(crate) fn of<A: Plan, B: Plan>(first: &A, second: &B, pairs: &PairTable) -> Covering
-        ensures { Covers (A.meaning first.now) (B.meaning second.now) (kept_pairs pairs.now) result }
+    pub(crate) fn of<A: Plan, B: Plan, R: Rule>(
+        compared: &Compared<'_, A, B, R>,
+        pairs: &PairTable,
+    ) -> Covering
+        ensures { Covers (A.meaning compared.now.first.now) (B.meaning compared.now.second.now) (kept_pairs pairs.now) result }
     {
-        let first_next = next_closings(first);
-        let second_next = next_closings(second);
+        let first_next = next_closings(compared.first);
+        let second_next = next_closings(compared.second);
         let first_covered = covered_by(&second_next, pairs);
         let second_covered = covered_by(&first_next, &pairs.transposed());
         Covering {

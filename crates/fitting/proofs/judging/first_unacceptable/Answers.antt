@@ -15,9 +15,9 @@ loop-t-init g c = λ y low has. absurd (omega (arith, low))
 
 pub returns-in-Some : goal.returns-in-Some
 returns-in-Some g c =
-    let a = g.A.Plan.meaning c.args.first.now in
-    let b = g.B.Plan.meaning c.args.second.now in
-    let says = g.R.Rule.says c.args.rule.now in
+    let a = g.A.Plan.meaning c.args.compared.now.first.now in
+    let b = g.B.Plan.meaning c.args.compared.now.second.now in
+    let says = g.R.Rule.says c.args.compared.now.rule.now in
     let refused = c.in-Some.ensures in (
       c.loop-s.s,
       c.loop-t.t,
@@ -34,13 +34,13 @@ returns-in-Some g c =
 
 pub loop-t-preserved : goal.loop-t-preserved
 loop-t-preserved g c =
-    let a = g.A.Plan.meaning c.args.first.now in
-    let b = g.B.Plan.meaning c.args.second.now in
-    let says = g.R.Rule.says c.args.rule.now in
+    let a = g.A.Plan.meaning c.args.compared.now.first.now in
+    let b = g.B.Plan.meaning c.args.compared.now.second.now in
+    let says = g.R.Rule.says c.args.compared.now.rule.now in
     elim c.if-stands.branch [
       | then-stands+in_default w ↦
           row_more (kept_pairs c.args.pairs.now) (Acceptable a b says) c.loop-s.s c.loop-t.t c.loop-t.invariant
-          (λ has. record { as_many = c.requires.0; on_each = w.in_default.ensures })
+          (λ has. record { as_many = c.requires.as_many; on_each = w.in_default.ensures })
       | else-stands w ↦
           row_more (kept_pairs c.args.pairs.now) (Acceptable a b says) c.loop-s.s c.loop-t.t c.loop-t.invariant
           (λ has. absurd (both_ways (kept_pairs c.args.pairs.now c.loop-s.s c.loop-t.t) (sym w.if-stands.ensures) has))
@@ -48,13 +48,13 @@ loop-t-preserved g c =
 
 pub loop-s-preserved : goal.loop-s-preserved
 loop-s-preserved g c =
-    let b = g.B.Plan.meaning c.args.second.now in
-    let laws = g.met.B.Plan.lawful c.args.second.now in
+    let b = g.B.Plan.meaning c.args.compared.now.second.now in
+    let laws = g.met.B.Plan.lawful c.args.compared.now.second.now in
     all_more (kept_pairs c.args.pairs.now) _ c.loop-s.s c.loop-t.t c.loop-s.invariant c.loop-t.invariant
-    (λ y has. omega (arith, marked_below b laws y (c.requires.1 c.loop-s.s y has).1))
+    (λ y has. omega (arith, marked_below b laws y (c.requires.only_marked c.loop-s.s y has).1))
 
 pub returns : goal.returns
 returns g c = λ s t has.
-    let a = g.A.Plan.meaning c.args.first.now in
-    let laws = g.met.A.Plan.lawful c.args.first.now in
-    c.loop-s.invariant s t (omega (arith, marked_below a laws s (c.requires.1 s t has).0)) has
+    let a = g.A.Plan.meaning c.args.compared.now.first.now in
+    let laws = g.met.A.Plan.lawful c.args.compared.now.first.now in
+    c.loop-s.invariant s t (omega (arith, marked_below a laws s (c.requires.only_marked s t has).0)) has

@@ -5,8 +5,8 @@ use Rattle.fitting.proofs.judging.first_unacceptable.Given as goal
 
 abbrev pub invariant-loop-t : goal.invariant-loop-t
 invariant-loop-t g l =
-    RowBelow (kept_pairs l.pairs) (Acceptable (g.A.Plan.meaning l.first) (g.B.Plan.meaning l.second) (g.R.Rule.says l.rule)) l.s l.t
+    RowBelow (kept_pairs l.pairs) (Acceptable (g.A.Plan.meaning l.compared.first.now) (g.B.Plan.meaning l.compared.second.now) (g.R.Rule.says l.compared.rule.now)) l.s l.t
 
 abbrev pub invariant-loop-s : goal.invariant-loop-s
 invariant-loop-s g l =
-    AllBelow (kept_pairs l.pairs) (Acceptable (g.A.Plan.meaning l.first) (g.B.Plan.meaning l.second) (g.R.Rule.says l.rule)) l.s
+    AllBelow (kept_pairs l.pairs) (Acceptable (g.A.Plan.meaning l.compared.first.now) (g.B.Plan.meaning l.compared.second.now) (g.R.Rule.says l.compared.rule.now)) l.s

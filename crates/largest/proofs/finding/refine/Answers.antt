@@ -13,15 +13,15 @@ loop-next-smaller g c = c.loop-next-test.ensures.tells
 pub loop-next-preserved : goal.loop-next-preserved
 loop-next-preserved g c =
     let next : Closings = record { first = c.next_closings.result; second = c.next_closings-2.result } in
-    round_more (g.A.Plan.meaning c.args.first.now) (g.B.Plan.meaning c.args.second.now) (g.R.Rule.says c.args.rule.now)
+    round_more (g.A.Plan.meaning c.args.compared.now.first.now) (g.B.Plan.meaning c.args.compared.now.second.now) (g.R.Rule.says c.args.compared.now.rule.now)
     next c.next_closings.ensures c.next_closings-2.ensures
     (kept_pairs c.loop-next.pairs) (kept_pairs c.next_round.new.pairs) c.loop-next.invariant c.next_round.ensures.sweeps
 
 pub returns-then-stands : goal.returns-then-stands
 returns-then-stands g c =
-    let a = g.A.Plan.meaning c.args.first.now in
-    let b = g.B.Plan.meaning c.args.second.now in
-    let says = g.R.Rule.says c.args.rule.now in
+    let a = g.A.Plan.meaning c.args.compared.now.first.now in
+    let b = g.B.Plan.meaning c.args.compared.now.second.now in
+    let says = g.R.Rule.says c.args.compared.now.rule.now in
     let next : Closings = record { first = c.next_closings.result; second = c.next_closings-2.result } in
     let pairs = kept_pairs c.next_round.new.pairs in
     let last : LastRound a b says pairs =
@@ -31,9 +31,9 @@ returns-then-stands g c =
 
 pub returns-else-stands : goal.returns-else-stands
 returns-else-stands g c =
-    let a = g.A.Plan.meaning c.args.first.now in
-    let b = g.B.Plan.meaning c.args.second.now in
-    let says = g.R.Rule.says c.args.rule.now in
+    let a = g.A.Plan.meaning c.args.compared.now.first.now in
+    let b = g.B.Plan.meaning c.args.compared.now.second.now in
+    let says = g.R.Rule.says c.args.compared.now.rule.now in
     let next : Closings = record { first = c.next_closings.result; second = c.next_closings-2.result } in
     let pairs = kept_pairs c.next_round.new.pairs in
     let last : LastRound a b says pairs =

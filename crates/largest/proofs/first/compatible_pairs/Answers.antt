@@ -12,15 +12,15 @@ use Rattle.largest.proofs.first.compatible_pairs.Goals.{then-marked, else-marked
 
 pub loop-s-init : goal.loop-s-init
 loop-s-init g c =
-    let P = Compatible (g.A.Plan.meaning c.args.first.now) (g.B.Plan.meaning c.args.second.now) (g.R.Rule.says c.args.rule.now) in
+    let P = Compatible (g.A.Plan.meaning c.args.compared.now.first.now) (g.B.Plan.meaning c.args.compared.now.second.now) (g.R.Rule.says c.args.compared.now.rule.now) in
     subst (λ (p : Pairs). RowsBelow P 0 p) (sym c.empty-pairs.ensures) (rows_none P)
 
 pub loop-s-preserved : goal.loop-s-preserved
 loop-s-preserved g c =
-    let a = g.A.Plan.meaning c.args.first.now in
-    let b = g.B.Plan.meaning c.args.second.now in
-    let P = Compatible a b (g.R.Rule.says c.args.rule.now) in
-    let laws = g.met.B.Plan.lawful c.args.second.now in
+    let a = g.A.Plan.meaning c.args.compared.now.first.now in
+    let b = g.B.Plan.meaning c.args.compared.now.second.now in
+    let P = Compatible a b (g.R.Rule.says c.args.compared.now.rule.now) in
+    let laws = g.met.B.Plan.lawful c.args.compared.now.second.now in
     let s = c.loop-s.s in
     elim c.if-marked.branch [
       | then-marked w ↦
@@ -33,10 +33,10 @@ loop-s-preserved g c =
 
 pub returns : goal.returns
 returns g c =
-    let a = g.A.Plan.meaning c.args.first.now in
-    let b = g.B.Plan.meaning c.args.second.now in
-    let says = g.R.Rule.says c.args.rule.now in
-    let laws = g.met.A.Plan.lawful c.args.first.now in
+    let a = g.A.Plan.meaning c.args.compared.now.first.now in
+    let b = g.B.Plan.meaning c.args.compared.now.second.now in
+    let says = g.R.Rule.says c.args.compared.now.rule.now in
+    let laws = g.met.A.Plan.lawful c.args.compared.now.first.now in
     round_first a b says (kept_pairs c.loop-s.pairs)
     (rows_all (Compatible a b says) c.loop-s.s (kept_pairs c.loop-s.pairs)
     (λ s t compatible. omega (arith, marked_below a laws s compatible.first_marked, c.states-s-end.ensures, c.loop-s-test.false)) c.loop-s.invariant)

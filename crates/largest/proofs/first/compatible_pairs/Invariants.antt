@@ -5,4 +5,4 @@ use Rattle.largest.proofs.first.compatible_pairs.Given as goal
 
 abbrev pub invariant-loop-s : goal.invariant-loop-s
 invariant-loop-s g l =
-    RowsBelow (Compatible (g.A.Plan.meaning l.first) (g.B.Plan.meaning l.second) (g.R.Rule.says l.rule)) l.s (kept_pairs l.pairs)
+    RowsBelow (Compatible (g.A.Plan.meaning l.compared.first.now) (g.B.Plan.meaning l.compared.second.now) (g.R.Rule.says l.compared.rule.now)) l.s (kept_pairs l.pairs)

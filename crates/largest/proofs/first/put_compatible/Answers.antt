@@ -11,16 +11,16 @@ use Rattle.largest.proofs.first.put_compatible.Goals.{then-marked+then-is_accept
 
 pub loop-t-init : goal.loop-t-init
 loop-t-init g c =
-    row_none (Compatible (g.A.Plan.meaning c.args.first.now) (g.B.Plan.meaning c.args.second.now) (g.R.Rule.says c.args.rule.now))
+    row_none (Compatible (g.A.Plan.meaning c.args.compared.now.first.now) (g.B.Plan.meaning c.args.compared.now.second.now) (g.R.Rule.says c.args.compared.now.rule.now))
     c.args.s (kept_pairs c.args.pairs.now)
 
 pub loop-t-preserved : goal.loop-t-preserved
 loop-t-preserved g c =
-    let a = g.A.Plan.meaning c.args.first.now in
-    let b = g.B.Plan.meaning c.args.second.now in
-    let P = Compatible a b (g.R.Rule.says c.args.rule.now) in
-    let laws = g.met.A.Plan.lawful c.args.first.now in
-    let laws' = g.met.B.Plan.lawful c.args.second.now in
+    let a = g.A.Plan.meaning c.args.compared.now.first.now in
+    let b = g.B.Plan.meaning c.args.compared.now.second.now in
+    let P = Compatible a b (g.R.Rule.says c.args.compared.now.rule.now) in
+    let laws = g.met.A.Plan.lawful c.args.compared.now.first.now in
+    let laws' = g.met.B.Plan.lawful c.args.compared.now.second.now in
     let s = c.args.s in
     let t = c.loop-t.t in
     let old = kept_pairs c.args.pairs.now in
@@ -45,7 +45,7 @@ loop-t-preserved g c =
 
 pub returns : goal.returns
 returns g c =
-    let b = g.B.Plan.meaning c.args.second.now in
-    let P = Compatible (g.A.Plan.meaning c.args.first.now) b (g.R.Rule.says c.args.rule.now) in
+    let b = g.B.Plan.meaning c.args.compared.now.second.now in
+    let P = Compatible (g.A.Plan.meaning c.args.compared.now.first.now) b (g.R.Rule.says c.args.compared.now.rule.now) in
     let all : c.loop-t.t ≡ b.states = omega (arith, c.states-t-end.ensures, c.loop-t-test.false, c.loop-t.auto.t-end) in
     subst (λ k. RowAdded P c.args.s k (kept_pairs c.args.pairs.now) (kept_pairs c.loop-t.pairs)) all c.loop-t.invariant

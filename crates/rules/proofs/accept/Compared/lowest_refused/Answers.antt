@@ -3,7 +3,7 @@ use Rattle.std.proofs.lemmas.Bool.{both_ways}
 use Rattle.std.proofs.lemmas.Iterator.{first_from_Range}
 use Rattle.plan.specs.Model.{Model}
 use Rattle.rules.specs.Rules.{Says, LowestRefused}
-use Rattle.rules.proofs.accept.lowest_refused.Goals as goal
+use Rattle.rules.proofs.accept.Compared.lowest_refused.Goals as goal
 
 -- the first of the channels with a no is the lowest one
 lowest_is : (a b : Model) (says : Says) (s t from n : ℕ) (found : Option ℕ) → from ≡ 0 → n ≡ a.channels
@@ -16,5 +16,6 @@ lowest_is a b says s t from n (Some k) from_first all_channels h =
 
 pub returns : goal.returns
 returns g c =
-    lowest_is (g.A.Plan.meaning c.args.first.now) (g.B.Plan.meaning c.args.second.now) (g.R.Rule.says c.args.rule.now) c.args.s c.args.t _ _ c.find.result (omega arith) c.channels.ensures
+    let compared = c.args.self.now in
+    lowest_is (g.A.Plan.meaning compared.first.now) (g.B.Plan.meaning compared.second.now) (g.R.Rule.says compared.rule.now) c.args.s c.args.t _ _ c.find.result (omega arith) c.channels.ensures
     (first_from_Range _ _ _ _ _ _ c.find.ensures.ran (λ x q k. search (rules, tests)) (λ x q k. search (rules, tests)))
