@@ -1,4 +1,5 @@
 pub mod Ascending
+pub mod Counting
 pub mod Files
 pub mod Listed
 pub mod Placed

@@ -1,4 +1,5 @@
 pub mod Listing
+pub mod Opened
 pub mod PairFile
 pub mod Pairs
 pub mod Placing

@@ -7,7 +7,6 @@ use Rattle.layout.specs.Questions.{fits_length, begins_with, asked, row_asked}
 use Rattle.layout.specs.Refusals.{refusal_numbers}
 use Rattle.layout.specs.declared.refusal.FileRefusal.{FileRefusal}
 use Rattle.plan.specs.declared.answer.Answer.{Answer}
-use Rattle.pairs.specs.declared.header.PairHeader.{PairHeader}
 use Rattle.pairs.specs.Pairs.{Pairs, is_pair}
 
 abbrev pub count_in : List ℕ → ℕ
@@ -74,19 +73,6 @@ pub record FramePasses (b : List ℕ) : Type 0 where
   pub count_passes : count_fits b ≡ true
   pub rows_pass : rows_fit b ≡ true
 
--- the header of a file that passes all questions that are put to the file alone
-pub record HeaderOf (b : List ℕ) (h : PairHeader) : Type 0 where
-  pub frame : FramePasses b
-  pub in_order : InOrder b (count_in b)
-  pub count_read : h.count ≡ count_in b
-  pub rows_read : h.rows ≡ rows_in b
-
 -- the refusal is the file's, whatever would follow
 abbrev pub RefusedFile : List ℕ → FileRefusal → Type 0
 RefusedFile b refused = (next : Answer) → refusal_numbers refused ≡ file_asked b next
-
--- the header of a file that passes questions 1, 2, 3 and 5
-pub record FrameOf (b : List ℕ) (h : PairHeader) : Type 0 where
-  pub frame_passes : FramePasses b
-  pub count_is : h.count ≡ count_in b
-  pub rows_is : h.rows ≡ rows_in b

@@ -1,9 +1,9 @@
 // Pairs of states: the table of those that stand, and the pair file.
 #![tactic(auto)]
 
-mod header;
+mod file;
 mod table;
 mod write;
 
-pub use header::PairHeader;
+pub use file::PairFile;
 pub use table::PairTable;

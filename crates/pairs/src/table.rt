@@ -1,15 +1,17 @@
 // The table of the pairs that stand: a byte for each pair of states.
-ghost use Rattle.std.specs.Prelude.{◌≡◌, ℕ, ◌<◌, true, length, if◌then◌else◌, Decides};
+ghost use Rattle.std.specs.Prelude.{◌≡◌, ℕ, ◌<◌, true, length, if◌then◌else◌, Decides, MatchBool};
 ghost use Rattle.pairs.specs.Listing.{partners_below, listing, pair_count, Lists};
 ghost use Rattle.pairs.specs.Pairs.{no_pairs, with_pair, without_pair, fits_table, kept_pairs, RowWithin};
 
-// A table has rows and columns for so many states.
-pub(crate) const STATES: usize = 128;
+use plan::MOST_STATES;
+
+// There are at most this many pairs of states.
+pub(crate) const MOST_PAIRS: usize = MOST_STATES * MOST_STATES;
 
 // Row by state of the first plan, column by state of the second; 1 where the pair stands.
 #[derive(Drop)]
 pub struct PairTable {
-    bytes: [u8; 16384],
+    bytes: [u8; MOST_PAIRS],
 }
 
 impl PairTable {
@@ -17,45 +19,48 @@ impl PairTable {
     pub fn empty() -> PairTable
         ensures { kept_pairs result ≡ no_pairs }
     {
-        PairTable { bytes: [0; 16384] }
+        PairTable {
+            bytes: [0; MOST_PAIRS],
+        }
     }
 
     // Does this pair stand?
     pub fn stands(&self, first: usize, second: usize) -> bool
         ensures { result ≡ kept_pairs self.now first second }
     {
-        first < STATES && second < STATES && self.bytes[first * STATES + second] == 1
+        first < MOST_STATES && second < MOST_STATES && self.bytes[first * MOST_STATES + second] == 1
+    }
+
+    // Says whether a pair stands. A pair that does not fit the table is left out.
+    fn set(&mut self, first: usize, second: usize, stands: bool)
+        ensures { MatchBool stands (kept_pairs self.new ≡ (if fits_table first second then with_pair (kept_pairs self.old) first second else kept_pairs self.old)) (kept_pairs self.new ≡ without_pair (kept_pairs self.old) first second) }
+    {
+        if first < MOST_STATES && second < MOST_STATES {
+            self.bytes[first * MOST_STATES + second] = u8::from(stands);
+        }
     }
 
     // Puts a pair in. A pair that does not fit the table is left out.
     pub fn put(&mut self, first: usize, second: usize)
         ensures { kept_pairs self.new ≡ (if fits_table first second then with_pair (kept_pairs self.old) first second else kept_pairs self.old) }
     {
-        if first < STATES && second < STATES {
-            self.bytes[first * STATES + second] = 1;
-        }
+        self.set(first, second, true);
     }
 
     // Takes a pair out.
     pub fn strike(&mut self, first: usize, second: usize)
         ensures { kept_pairs self.new ≡ without_pair (kept_pairs self.old) first second }
     {
-        if first < STATES && second < STATES {
-            self.bytes[first * STATES + second] = 0;
-        }
+        self.set(first, second, false);
     }
 
     // How many pairs of this first state stand.
     fn row_count(&self, first: usize) -> usize
         ensures { result ≡ length (partners_below (kept_pairs self.now) first 128) }
     {
-        let mut n = 0;
-        for second in 0..STATES {
-            if self.stands(first, second) {
-                n += 1;
-            }
-        }
-        n
+        (0..MOST_STATES)
+            .filter(|second| self.stands(first, *second))
+            .count()
     }
 
     // How many pairs stand.
@@ -63,21 +68,17 @@ impl PairTable {
         ensures count { result ≡ pair_count (kept_pairs self.now) }
         ensures lists { Lists (kept_pairs self.now) (listing (kept_pairs self.now)) }
     {
-        let mut n = 0;
-        for first in 0..STATES {
-            n += self.row_count(first);
-        }
-        n
+        (0..MOST_STATES).map(|first| self.row_count(first)).sum()
     }
 
     // The same pairs with their states exchanged.
     pub fn transposed(&self) -> PairTable
         ensures { kept_pairs result ≡ (λ x y. kept_pairs self.now y x) }
     {
-        let mut bytes = [0; 16384];
-        for first in 0..STATES {
-            for second in 0..STATES {
-                bytes[second * STATES + first] = self.bytes[first * STATES + second];
+        let mut bytes = [0; MOST_PAIRS];
+        for first in 0..MOST_STATES {
+            for second in 0..MOST_STATES {
+                bytes[second * MOST_STATES + first] = self.bytes[first * MOST_STATES + second];
             }
         }
         PairTable { bytes }
@@ -87,14 +88,14 @@ impl PairTable {
     pub fn rows_meet(&self, i: usize, other: &PairTable, j: usize) -> bool
         ensures { Decides result ((y : ℕ) × (kept_pairs self.now i y ≡ true) × (kept_pairs other.now j y ≡ true)) }
     {
-        if i >= STATES || j >= STATES {
+        if i >= MOST_STATES || j >= MOST_STATES {
             return false;
         }
-        let a = i * STATES;
-        let b = j * STATES;
+        let a = i * MOST_STATES;
+        let b = j * MOST_STATES;
         let mut met = false;
         // Each column is looked at, also once one was found, so that many can be looked at together.
-        for k in 0..STATES {
+        for k in 0..MOST_STATES {
             met |= (self.bytes[a + k] == 1) & (other.bytes[b + k] == 1);
         }
         met
@@ -104,15 +105,15 @@ impl PairTable {
     pub fn row_within(&self, i: usize, other: &PairTable, j: usize) -> bool
         ensures { Decides result (RowWithin (kept_pairs self.now) i (kept_pairs other.now) j) }
     {
-        if i >= STATES || j >= STATES {
+        if i >= MOST_STATES || j >= MOST_STATES {
             // One of the rows lies behind its table and has nothing.
             return self.row_count(i) == 0;
         }
-        let a = i * STATES;
-        let b = j * STATES;
+        let a = i * MOST_STATES;
+        let b = j * MOST_STATES;
         let mut within = true;
         // Each column is looked at, also once one is missing, so that many can be looked at together.
-        for k in 0..STATES {
+        for k in 0..MOST_STATES {
             within &= (self.bytes[a + k] != 1) | (other.bytes[b + k] == 1);
         }
         within

@@ -5,23 +5,19 @@ ghost use Rattle.pairs.specs.Listing.{partners_below, listing, pair_count};
 ghost use Rattle.pairs.specs.Writing.{header_bytes, pair_file, ReadsBack, Written, NotWritten};
 ghost use Rattle.pairs.specs.Placing.{Placed};
 
-use super::PairTable;
-use super::header::{HEADER, ROW};
-use super::table::STATES;
-use plan::TooShort;
+use crate::file::{HEADER, ROW};
+use crate::table::PairTable;
+use plan::{MOST_STATES, TooShort};
 
 // Writes the header of a file with so many rows.
 fn write_header(buffer: &mut [u8], count: usize)
     requires { (6 ≤ length buffer.old) × (count < 65536) }
     ensures { buffer.new ≡ header_bytes count ++ drop 6 buffer.old }
 {
-    buffer[0] = 0x52;
-    buffer[1] = 0x4C;
-    buffer[2] = (count % 256) as u8;
-    buffer[3] = (count / 256) as u8;
+    let [low, high] = (count as u16).to_le_bytes();
     // The rows follow the header directly.
-    buffer[4] = HEADER as u8;
-    buffer[5] = 0;
+    let header = [0x52, 0x4C, low, high, HEADER as u8, 0];
+    buffer[..HEADER].copy_from_slice(&header);
 }
 
 impl PairTable {
@@ -31,7 +27,7 @@ impl PairTable {
         ensures { Placed (partners_below (kept_pairs self.now) first 128) buffer.old buffer.new from result }
     {
         let mut at = from;
-        for second in 0..STATES {
+        for second in 0..MOST_STATES {
             if self.stands(first, second) {
                 buffer[at] = first as u8;
                 buffer[at + 1] = second as u8;
@@ -47,7 +43,7 @@ impl PairTable {
         ensures { Placed (listing (kept_pairs self.now)) buffer.old buffer.new 6 result }
     {
         let mut at = HEADER;
-        for first in 0..STATES {
+        for first in 0..MOST_STATES {
             at = self.write_partners(first, buffer, at);
         }
         at

@@ -1,19 +1,13 @@
-use Rattle.std.proofs.Common.{length, sym, ap, ◌∙◌, arith}
+use Rattle.std.proofs.Common.{◌∙◌, rules, tests, arith}
+use Rattle.std.proofs.lemmas.Iterator.{YieldsList-from_range}
+use Rattle.std.proofs.lemmas.Iterator.Consumers.{YieldsList-at, YieldsList-from_filter, count_from_yields_List}
 use Rattle.pairs.specs.Pairs.{kept_pairs}
-use Rattle.pairs.proofs.Listed.{partners_none, partners_length, length_with, length_without}
+use Rattle.pairs.proofs.Counting.{row_counted}
 use Rattle.pairs.proofs.table.PairTable.row_count.Goals as goal
-use Rattle.pairs.proofs.table.PairTable.row_count.Goals.{then-stands, else-stands}
 
-pub loop-second-init : goal.loop-second-init
-loop-second-init c = sym (ap length (partners_none (kept_pairs c.args.self.now) c.args.first))
-
-pub overflow_add-n : goal.overflow_add-n
-overflow_add-n c = record { fits = omega (arith, c.loop-second.invariant, partners_length (kept_pairs c.args.self.now) c.args.first c.loop-second.second) }
-
-pub loop-second-preserved : goal.loop-second-preserved
-loop-second-preserved c =
+pub returns : goal.returns
+returns c =
     let pairs = kept_pairs c.args.self.now in
-    elim c.if-stands.branch [
-      | then-stands w ↦ w.n-is ∙ length_with pairs c.args.first c.loop-second.second c.loop-second.n c.loop-second.invariant w.if-stands.ensures
-      | else-stands w ↦ w.n-is ∙ length_without pairs c.args.first c.loop-second.second c.loop-second.n c.loop-second.invariant w.if-stands.ensures
-    ]
+    count_from_yields_List c.filter.result _ c.count.ensures.ran
+    (YieldsList-from_filter _ (pairs c.args.first) (YieldsList-at c.filter.ensures.source (YieldsList-from_range 0 128 128 (cc) (omega arith))) c.filter.ensures.closure (λ x b q k. search (rules, tests)))
+    ∙ row_counted pairs c.args.first 128
