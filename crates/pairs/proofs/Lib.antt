@@ -2,10 +2,10 @@ pub mod Ascending
 pub mod Counting
 pub mod Files
 pub mod Listed
+pub mod Made
 pub mod Placed
 pub mod Reading
 pub mod Rows
 pub mod Tables
-pub mod Turning
 pub mod Wholes
 pub mod Within

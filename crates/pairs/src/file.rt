@@ -7,6 +7,9 @@ mod open;
 // How long the header is.
 pub(crate) const HEADER: usize = 6;
 
+// What the file begins with.
+pub(crate) const SIGN: [u8; 2] = [0x52, 0x4C];
+
 // A row has a byte for each of the two states.
 pub(crate) const ROW: usize = 2;
 

@@ -71,17 +71,25 @@ impl PairTable {
         (0..MOST_STATES).map(|first| self.row_count(first)).sum()
     }
 
+    // The pairs of which a test says yes.
+    pub fn from_fn<F: Fn(usize, usize) -> bool>(test: F) -> PairTable
+        requires { F.IsAlwaysCallable test }
+        ensures { (s t : ℕ) → s < 128 → t < 128 → F.post test s t (kept_pairs result s t) }
+    {
+        let mut pairs = PairTable::empty();
+        for first in 0..MOST_STATES {
+            for second in 0..MOST_STATES {
+                pairs.set(first, second, test(first, second));
+            }
+        }
+        pairs
+    }
+
     // The same pairs with their states exchanged.
     pub fn transposed(&self) -> PairTable
         ensures { kept_pairs result ≡ (λ x y. kept_pairs self.now y x) }
     {
-        let mut bytes = [0; MOST_PAIRS];
-        for first in 0..MOST_STATES {
-            for second in 0..MOST_STATES {
-                bytes[second * MOST_STATES + first] = self.bytes[first * MOST_STATES + second];
-            }
-        }
-        PairTable { bytes }
+        PairTable::from_fn(|first, second| self.stands(second, first))
     }
 
     // Have row i of this table and row j of the other a second state in common?

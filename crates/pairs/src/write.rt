@@ -5,25 +5,27 @@ ghost use Rattle.pairs.specs.Listing.{partners_below, listing, pair_count};
 ghost use Rattle.pairs.specs.Writing.{header_bytes, pair_file, ReadsBack, Written, NotWritten};
 ghost use Rattle.pairs.specs.Placing.{Placed};
 
-use crate::file::{HEADER, ROW};
+use crate::file::{HEADER, ROW, SIGN};
 use crate::table::PairTable;
 use plan::{MOST_STATES, TooShort};
 
 // Writes the header of a file with so many rows.
 fn write_header(buffer: &mut [u8], count: usize)
-    requires { (6 ≤ length buffer.old) × (count < 65536) }
+    requires room { 6 ≤ length buffer.old }
+    requires word { count < 65536 }
     ensures { buffer.new ≡ header_bytes count ++ drop 6 buffer.old }
 {
     let [low, high] = (count as u16).to_le_bytes();
     // The rows follow the header directly.
-    let header = [0x52, 0x4C, low, high, HEADER as u8, 0];
+    let header = [SIGN[0], SIGN[1], low, high, HEADER as u8, 0];
     buffer[..HEADER].copy_from_slice(&header);
 }
 
 impl PairTable {
     // Writes the rows of this first state from a place of the buffer on, and says where they end.
     fn write_partners(&self, first: usize, buffer: &mut [u8], from: usize) -> usize
-        requires { (first < 128) × (from + 2 * length (partners_below (kept_pairs self.now) first 128) ≤ length buffer.old) }
+        requires is_state { first < 128 }
+        requires room { from + 2 * length (partners_below (kept_pairs self.now) first 128) ≤ length buffer.old }
         ensures { Placed (partners_below (kept_pairs self.now) first 128) buffer.old buffer.new from result }
     {
         let mut at = from;

@@ -4,21 +4,16 @@ ghost use Rattle.layout.specs.Lowest.{Lowest};
 ghost use Rattle.pairs.specs.PairFile.{InOrder, RefusedFile, out_of_order, count_in, first_in, second_in};
 ghost use Rattle.pairs.specs.Opened.{HeaderOf, FrameOf};
 
-use super::{HEADER, PairFile, ROW};
+use super::{HEADER, PairFile, ROW, SIGN};
 use crate::table::MOST_PAIRS;
-use layout::{FileRefusal, byte, has_sign, length_fits, word};
+use layout::{FileRefusal, byte, check_beginning, word};
 
 impl<'a> PairFile<'a> {
     // Puts questions 1, 2, 3 and 5.
     fn read_frame(bytes: &'a [u8]) -> Result<PairFile<'a>, FileRefusal>
         ensures { MatchResult result (FrameOf bytes.now) (RefusedFile bytes.now) }
     {
-        if !length_fits(bytes, HEADER) {
-            return Err(FileRefusal::Length);
-        }
-        if !has_sign(bytes, 0x52, 0x4C) {
-            return Err(FileRefusal::Sign);
-        }
+        check_beginning(bytes, HEADER, SIGN)?;
         let count = word(bytes, 2);
         if count > MOST_PAIRS {
             return Err(FileRefusal::Counts);
@@ -51,7 +46,8 @@ impl<'a> PairFile<'a> {
 
     // Does row i, which is not the first, come after the row before it?
     fn is_in_order(&self, i: usize) -> bool
-        requires { (0 < i) × (i < count_in self.now.bytes.now) }
+        requires later { 0 < i }
+        requires is_row { i < count_in self.now.bytes.now }
         ensures { result ≡ not (out_of_order self.now.bytes.now i) }
     {
         self.row(i - 1) < self.row(i)

@@ -1,19 +1,10 @@
-use Rattle.std.proofs.Common.{◌+◌, ◌*◌, ◌<◌, length, ◌∙◌, arith, below_more}
-use Rattle.std.proofs.lemmas.List.{length-set}
-use Rattle.pairs.proofs.Turning.{turned_more, row_turned_more}
+use Rattle.std.proofs.Common.{rules}
+use Rattle.pairs.specs.Pairs.{kept_pairs}
+use Rattle.pairs.proofs.Made.{made_is, kept_within}
 use Rattle.pairs.proofs.table.PairTable.transposed.Goals as goal
 
-pub loop-second-preserved : goal.loop-second-preserved
-loop-second-preserved c =
-    let xs = c.args.self.now.bytes in
-    let ys = c.loop-second.bytes in
-    let s = c.loop-first.first in
-    let t = c.loop-second.second in
-    let place : t * 128 + s < length ys = omega (arith, c.loop-second.invariant.0) in (
-      length-set ys _ _ ∙ c.loop-second.invariant.0,
-      turned_more xs ys s t c.loop-first-test.true place c.loop-second.invariant.1,
-      row_turned_more xs ys s t c.loop-first-test.true place c.loop-second.invariant.2,
-    )
-
-pub loop-first-preserved : goal.loop-first-preserved
-loop-first-preserved c = (c.loop-second.invariant.0, below_more _ _ c.loop-second.invariant.1 (λ t low. c.loop-second.invariant.2 t (omega arith)))
+pub returns : goal.returns
+returns c =
+    made_is c.from_fn.result (λ x y. kept_pairs c.args.self.now y x)
+    (λ s t has. let below = kept_within c.args.self.now t s has in (below.1, below.0))
+    (λ s t low low'. let h = c.from_fn.ensures s t low low' in search rules)

@@ -19,7 +19,7 @@ returns-then-buffer-needed c =
     }
 
 pub write_header-requires : goal.write_header-requires
-write_header-requires c = (omega arith, omega (arith, c.count-count.ensures.count, count_length (kept_pairs c.args.self.now)))
+write_header-requires c = record { room = omega arith; word = omega (arith, c.count-count.ensures.count, count_length (kept_pairs c.args.self.now)) }
 
 pub returns : goal.returns
 returns c =

@@ -13,7 +13,7 @@ room c =
       arith,
       c.loop-second.auto.buffer,
       row_room (kept_pairs c.args.self.now) c.args.buffer.now c.args.first c.args.from c.loop-second.second c.loop-second.at
-          c.loop-second.buffer c.requires.1 c.loop-second.invariant (omega arith) c.if-stands.ensures,
+          c.loop-second.buffer c.requires.room c.loop-second.invariant (omega arith) c.if-stands.ensures,
     )
 
 pub loop-second-init : goal.loop-second-init
@@ -42,9 +42,9 @@ loop-second-preserved c =
       | then-stands w ↦
           subst (λ bs. Placed rows before bs c.args.from c.if-stands.at) (sym w.buffer-is)
           (subst (Placed rows before _ c.args.from) (sym w.at-is)
-          (row_with pairs before s c.args.from k c.loop-second.at c.loop-second.buffer c.requires.1 c.loop-second.invariant (omega arith) c.loop-second.auto.buffer w.if-stands.ensures))
+          (row_with pairs before s c.args.from k c.loop-second.at c.loop-second.buffer c.requires.room c.loop-second.invariant (omega arith) c.loop-second.auto.buffer w.if-stands.ensures))
       | else-stands w ↦
           subst (λ bs. Placed rows before bs c.args.from c.if-stands.at) (sym w.buffer-is)
           (subst (Placed rows before _ c.args.from) (sym w.at-is)
-          (row_without pairs before s c.args.from k c.loop-second.at c.loop-second.buffer c.requires.1 c.loop-second.invariant w.if-stands.ensures))
+          (row_without pairs before s c.args.from k c.loop-second.at c.loop-second.buffer c.requires.room c.loop-second.invariant w.if-stands.ensures))
     ]

@@ -7,10 +7,10 @@ pub loop-first-init : goal.loop-first-init
 loop-first-init c = rows_none (kept_pairs c.args.self.now) c.args.buffer.now
 
 pub write_partners-at-requires : goal.write_partners-at-requires
-write_partners-at-requires c = (
-  omega arith,
-  omega (arith, c.loop-first.auto.buffer, rows_room (kept_pairs c.args.self.now) c.args.buffer.now c.loop-first.first c.loop-first.at c.loop-first.buffer c.requires c.loop-first.invariant (omega arith)),
-)
+write_partners-at-requires c = record {
+  is_state = omega arith;
+  room = omega (arith, c.loop-first.auto.buffer, rows_room (kept_pairs c.args.self.now) c.args.buffer.now c.loop-first.first c.loop-first.at c.loop-first.buffer c.requires c.loop-first.invariant (omega arith));
+}
 
 pub loop-first-preserved : goal.loop-first-preserved
 loop-first-preserved c =
