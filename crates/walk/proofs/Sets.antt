@@ -1,8 +1,11 @@
 -- Sets of states, kept as lists of yes and no.
-use Rattle.std.proofs.Common.{◌≡◌, ℕ, ◌<◌, ◌≤◌, Bool, true, false, ◌≢◌, ◌⊎◌, List, length, get_or, set, replicate, sym, ◌∙◌, subst, inl, inr, ⊎_elim, arith}
-use Rattle.std.proofs.lemmas.List.{get_or-set_same, get_or-set_other, get_or_past, get_or-replicate, length-replicate}
-use Rattle.std.proofs.lemmas.Bool.{cases_eq, cases_lt, both_ways}
-use Rattle.walk.specs.Walking.{In, OnlyOne}
+use Rattle.std.proofs.Common.{◌≡◌, ℕ, zero, suc, ◌+◌, ◌<◌, ◌≤◌, Bool, true, false, ◌&&◌, ltb, ◌≢◌, ◌⊎◌, List, length, get_or, set, sym, ◌∙◌, subst, inl, inr, ⊎_elim, arith}
+use Rattle.std.proofs.lemmas.List.{get_or-set_same, get_or-set_other, get_or_past}
+use Rattle.std.proofs.lemmas.Bool.{cases_eq, cases_lt, both_ways, lt-ltb, le-ltb}
+use Rattle.std.specs.Array.{IsFromFnResult, IsFromFnResultFrom}
+use Rattle.std.specs.Fn.{Called}
+use denote.Param.Members.{Mut}
+use Rattle.walk.specs.Walking.{In}
 
 -- who is in a set has a place there
 pub in_within : (xs : List Bool) (u : ℕ) → In xs u → u < length xs
@@ -32,26 +35,25 @@ in_cases xs i u there =
     (λ (other : u ≢ i). inr (sym (get_or-set_other xs i u true false other) ∙ there))
     (cases_eq u i)
 
--- nobody is in an empty set
-pub empty_set : (n u : ℕ) → get_or (replicate n false) u false ≡ false
-empty_set n u =
-    ⊎_elim
-    (λ (low : u < n). get_or-replicate n u false false low)
-    (λ (high : n ≤ u). get_or_past (replicate n false) u false (rw length-replicate high))
-    (cases_lt u n)
+-- the set of those below n that are so, and nobody else
+abbrev pub Below : (ℕ → Bool) → ℕ → List Bool → Type 0
+Below is n xs = (u : ℕ) → get_or xs u false ≡ (ltb u n && is u)
 
-pub only_there : (s : ℕ) → s < 128 → OnlyOne s (set (replicate 128 false) s true)
-only_there s low u = (
-  λ there.
+module _ {F : Type 0} (g : Mut F (ℕ × Unit {0}) Bool) (f : F) (is : ℕ → Bool) (answers : (u : ℕ) (yes : Bool) (q : F) → Called g f (u, tt) yes q → (q ≡ f) × (yes ≡ is u)) where
+  -- each of the n places from i on has what the calls gave
+  each_place : (xs : List Bool) (i n : ℕ) → IsFromFnResultFrom g f xs i n → (u : ℕ) → i ≤ u → u < i + n → get_or xs u false ≡ is u
+  each_place xs i zero calls u from below = absurd (omega arith)
+  each_place xs i (suc n) calls u from below =
+      let call = answers i calls.1 calls.0 calls.3 in
       ⊎_elim
-      (λ (same : u ≡ s). (same, omega arith))
-      (λ (old : In (replicate 128 false) u). absurd (both_ways _ (empty_set 128 u) old))
-      (in_cases (replicate 128 false) s u there),
-  λ is. subst (In (set (replicate 128 false) s true)) (sym is.0) (in_new (replicate 128 false) s (rw length-replicate low)),
-)
+      (λ (here : u ≡ i). subst (λ k. get_or xs k false ≡ is k) (sym here) (calls.2.1 false ∙ call.1))
+      (λ (later : u ≢ i). each_place xs (i + 1) n (subst (λ p. IsFromFnResultFrom g p xs (i + 1) n) call.0 calls.4) u (omega (arith, later)) (omega arith))
+      (cases_eq u i)
 
-pub only_nowhere : (s : ℕ) → 128 ≤ s → OnlyOne s (replicate 128 false)
-only_nowhere s high u = (
-  λ there. absurd (both_ways _ (empty_set 128 u) there),
-  λ is. absurd (omega (arith, is.0, is.1)),
-)
+  -- a set that is made place by place
+  pub made : (xs : List Bool) (n : ℕ) → IsFromFnResult g f xs n → Below is n xs
+  made xs n result u =
+      ⊎_elim
+      (λ (low : u < n). rw (lt-ltb u n low) (each_place xs 0 n result.each u (omega arith) (omega arith)))
+      (λ (high : n ≤ u). rw (le-ltb u n high) (get_or_past xs u false (omega (arith, result.long))))
+      (cases_lt u n)

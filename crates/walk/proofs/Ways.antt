@@ -1,5 +1,5 @@
 -- From the first states to the end of a walk.
-use Rattle.std.proofs.Common.{◌≡◌, ℕ, ◌+◌, ◌<◌, ◌≤◌, Bool, true, false, ◌≢◌, List, length, get_or, set, sym, refl, ap, ◌∙◌, subst, inl, ⊎_elim, arith}
+use Rattle.std.proofs.Common.{◌≡◌, ℕ, ◌+◌, ◌<◌, ◌≤◌, Bool, true, false, ◌≢◌, List, length, get_or, set, sym, refl, ap, ◌∙◌, subst, ⊎_elim, arith}
 use Rattle.std.proofs.lemmas.List.{length-set, get_or-set_same, get_or-set_other}
 use Rattle.std.proofs.lemmas.Bool.{cases_Bool, cases_eq, cases_lt, both_ways}
 use Rattle.plan.specs.Model.{Model, Lawful}
@@ -103,25 +103,8 @@ module _ (n : ℕ) (first queued : List Bool) (queue : List ℕ) (len i : ℕ) (
       }
 
 module _ (m : Model) (laws : Lawful m) (first : List Bool) where
-  -- nothing is expanded yet
-  pub walking_start : (reached queued : List Bool) (queue : List ℕ) (len : ℕ) → m.states ≤ length reached → ((k : ℕ) → get_or reached k false ≡ false)
-      → Loaded m.states first queued queue len m.states
-      → Walking m first (record { reached = reached; queued = queued; queue = queue; len = len }) 0
-  walking_start reached queued queue len long none loaded = record {
-    has_room = record { reached_long = long; queued_long = loaded.queued_there; queue_long = loaded.queue_there; places = loaded.places_left };
-    come_so_far = record {
-      marks_true = λ t there. absurd (both_ways (get_or reached t false) (none t) there);
-      queue_true = λ k low. inl (loaded.loaded_true k low);
-      queued_stand = loaded.loaded_stand;
-      first_queued = loaded.loaded_first;
-      reached_queued = λ u there _. absurd (both_ways (get_or reached u false) (none u) there);
-      expanded = λ k low. absurd (omega (arith, low));
-    };
-    not_past = omega arith;
-  }
-
   -- one state more is expanded
-  pub walking_more : (w v : Work) (done : ℕ) → Walking m first w done → done < w.len
+  walking_more : (w v : Work) (done : ℕ) → Walking m first w done → done < w.len
       → Spread m (get_or w.queue done 0) (length (m.steps (get_or w.queue done 0))) w v → Walking m first v (done + 1)
   walking_more w v done walking low spread =
       let before : Expanding m first w done 0 = record { progress = walking.come_so_far; standing = low; so_far = λ j h. absurd (omega (arith, h)) } in
@@ -146,6 +129,14 @@ module _ (m : Model) (laws : Lawful m) (first : List Bool) where
         };
         not_past = omega (arith, after.0.standing);
       }
+
+  -- the same where what is named otherwise is equal
+  pub walking_next : (w n v : Work) (done next state : ℕ) → Walking m first w done → done < w.len → n ≡ w → next ≡ done + 1 → state ≡ get_or w.queue done 0
+      → Spread m state (length (m.steps state)) n v → Walking m first v next
+  walking_next w n v done next state walking low same one_more here spread =
+      subst (Walking m first v) (sym one_more)
+      (walking_more w v done walking low
+      (subst (λ s. Spread m s (length (m.steps s)) w v) here (subst (λ x. Spread m state (length (m.steps state)) x v) same spread)))
 
   -- all are expanded: what the first states lead to is reached
   all_reached : (w : Work) (done : ℕ) → Progress m first w done → w.len ≤ done → (s t : ℕ) → In first s → Leads m s t → In w.reached t
