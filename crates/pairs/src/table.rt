@@ -1,7 +1,7 @@
 // The table of the pairs that stand: a byte for each pair of states.
 ghost use Rattle.std.specs.Prelude.{◌≡◌, ℕ, ◌<◌, true, length, if◌then◌else◌, Decides, MatchBool};
 ghost use Rattle.pairs.specs.Listing.{partners_below, listing, pair_count, Lists};
-ghost use Rattle.pairs.specs.Pairs.{no_pairs, with_pair, without_pair, fits_table, kept_pairs, RowWithin};
+ghost use Rattle.pairs.specs.Pairs.{no_pairs, with_pair, without_pair, fits_table, kept_pairs, RowWithin, RowSays};
 
 use plan::MOST_STATES;
 
@@ -80,6 +80,21 @@ impl PairTable {
         for first in 0..MOST_STATES {
             for second in 0..MOST_STATES {
                 pairs.set(first, second, test(first, second));
+            }
+        }
+        pairs
+    }
+
+    // The pairs of which the rows say yes, each row by its first state.
+    pub fn from_rows<F: Fn(usize) -> [bool; MOST_STATES]>(rows: F) -> PairTable
+        requires { F.IsAlwaysCallable rows }
+        ensures { (s t : ℕ) → s < 128 → t < 128 → RowSays (F.post rows) s t (kept_pairs result s t) }
+    {
+        let mut pairs = PairTable::empty();
+        for first in 0..MOST_STATES {
+            let row = rows(first);
+            for second in 0..MOST_STATES {
+                pairs.set(first, second, row[second]);
             }
         }
         pairs

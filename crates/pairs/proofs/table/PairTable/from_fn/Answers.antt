@@ -1,6 +1,5 @@
-use Rattle.std.proofs.Common.{arith}
 use Rattle.pairs.specs.Pairs.{kept_pairs}
-use Rattle.pairs.proofs.Made.{row_more, made_stays, made_more}
+use Rattle.pairs.proofs.Made.{row_more, made_stays}
 use Rattle.pairs.proofs.table.PairTable.from_fn.Goals as goal
 
 pub loop-second-preserved : goal.loop-second-preserved
