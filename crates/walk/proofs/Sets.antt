@@ -1,5 +1,5 @@
 -- Sets of states, kept as lists of yes and no.
-use Rattle.std.proofs.Common.{◌≡◌, ℕ, zero, suc, ◌+◌, ◌<◌, ◌≤◌, Bool, true, false, ◌&&◌, ltb, ◌≢◌, ◌⊎◌, List, length, get_or, set, sym, ◌∙◌, subst, inl, inr, ⊎_elim, arith}
+use Rattle.std.proofs.Common.{◌≡◌, ℕ, zero, suc, ◌+◌, ◌<◌, ◌≤◌, Bool, true, false, ◌&&◌, ltb, ◌≢◌, ◌⊎◌, List, length, get_or, set, ap, sym, ◌∙◌, subst, inl, inr, ⊎_elim, arith}
 use Rattle.std.proofs.lemmas.List.{get_or-set_same, get_or-set_other, get_or_past}
 use Rattle.std.proofs.lemmas.Bool.{cases_eq, cases_lt, both_ways, lt-ltb, le-ltb}
 use Rattle.std.specs.Array.{IsFromFnResult, IsFromFnResultFrom}
@@ -38,6 +38,14 @@ in_cases xs i u there =
 -- the set of those below n that are so, and nobody else
 abbrev pub Below : (ℕ → Bool) → ℕ → List Bool → Type 0
 Below is n xs = (u : ℕ) → get_or xs u false ≡ (ltb u n && is u)
+
+-- where nobody from n on is so, the set is of all that are
+pub all_below : (is : ℕ → Bool) (n : ℕ) → ((u : ℕ) → n ≤ u → is u ≡ false) → (xs : List Bool) → Below is n xs → (u : ℕ) → get_or xs u false ≡ is u
+all_below is n none xs below u =
+    ⊎_elim
+    (λ (low : u < n). below u ∙ ap (λ within. within && is u) (lt-ltb u n low))
+    (λ (high : n ≤ u). below u ∙ ap (λ within. within && is u) (le-ltb u n high) ∙ sym (none u high))
+    (cases_lt u n)
 
 module _ {F : Type 0} (g : Mut F (ℕ × Unit {0}) Bool) (f : F) (is : ℕ → Bool) (answers : (u : ℕ) (yes : Bool) (q : F) → Called g f (u, tt) yes q → (q ≡ f) × (yes ≡ is u)) where
   -- each of the n places from i on has what the calls gave
