@@ -1,6 +1,7 @@
 pub mod Ascending
 pub mod Counting
 pub mod Files
+pub mod Folding
 pub mod Listed
 pub mod Made
 pub mod Placed

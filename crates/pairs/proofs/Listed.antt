@@ -49,9 +49,6 @@ module _ (pairs : Pairs) where
   pub length_with : (s k n : ℕ) → n ≡ length (partners_below pairs s k) → true ≡ pairs s k → n + 1 ≡ length (partners_below pairs s (k + 1))
   length_with s k n count is = rw (partners_with s k (sym is), length-append) (ap (λ j. j + 1) count)
 
-  pub length_without : (s k n : ℕ) → n ≡ length (partners_below pairs s k) → false ≡ pairs s k → n ≡ length (partners_below pairs s (k + 1))
-  length_without s k n count is = rw (partners_without s k (sym is)) count
-
   pub length_more : (k n m : ℕ) → n ≡ length (pairs_below pairs k) → m ≡ length (partners_below pairs k 128) → n + m ≡ length (pairs_below pairs (k + 1))
   length_more k n m count count' = rw (pairs_more k, length-append, count, count') refl
 

@@ -13,6 +13,7 @@ pub(crate) const SIGN: [u8; 2] = [0x52, 0x4C];
 // A row has a byte for each of the two states.
 pub(crate) const ROW: usize = 2;
 
+// The bytes of a file that passes questions 1, 2, 3 and 5, and what its header says.
 #[derive(Drop)]
 pub struct PairFile<'a> {
     bytes: &'a [u8],

@@ -1,5 +1,5 @@
 // The table of the pairs that stand: a byte for each pair of states.
-ghost use Rattle.std.specs.Prelude.{◌≡◌, ℕ, ◌<◌, true, length, if◌then◌else◌, Decides, MatchBool};
+ghost use Rattle.std.specs.Prelude.{◌≡◌, ℕ, ◌<◌, true, length, if◌then◌else◌, ◌==◌, slice_index, Decides, MatchBool};
 ghost use Rattle.pairs.specs.Listing.{partners_below, listing, pair_count, Lists};
 ghost use Rattle.pairs.specs.Pairs.{no_pairs, with_pair, without_pair, fits_table, kept_pairs, RowWithin, RowSays};
 
@@ -107,6 +107,15 @@ impl PairTable {
         PairTable::from_fn(|first, second| self.stands(second, first))
     }
 
+    // The bytes of row i.
+    fn row(&self, i: usize) -> &[u8]
+        requires { i < 128 }
+        ensures long { length result.now ≡ 128 }
+        ensures kept { (y : ℕ) → y < 128 → (slice_index result.now y == 1) ≡ kept_pairs self.now i y }
+    {
+        &self.bytes[i * MOST_STATES..(i + 1) * MOST_STATES]
+    }
+
     // Have row i of this table and row j of the other a second state in common?
     pub fn rows_meet(&self, i: usize, other: &PairTable, j: usize) -> bool
         ensures { Decides result ((y : ℕ) × (kept_pairs self.now i y ≡ true) × (kept_pairs other.now j y ≡ true)) }
@@ -114,14 +123,11 @@ impl PairTable {
         if i >= MOST_STATES || j >= MOST_STATES {
             return false;
         }
-        let a = i * MOST_STATES;
-        let b = j * MOST_STATES;
-        let mut met = false;
         // Each column is looked at, also once one was found, so that many can be looked at together.
-        for k in 0..MOST_STATES {
-            met |= (self.bytes[a + k] == 1) & (other.bytes[b + k] == 1);
-        }
-        met
+        self.row(i)
+            .iter()
+            .zip(other.row(j))
+            .fold(false, |met, (x, y)| met | ((*x == 1) & (*y == 1)))
     }
 
     // Has row j of the other table each second state that row i of this one has?
@@ -132,13 +138,10 @@ impl PairTable {
             // One of the rows lies behind its table and has nothing.
             return self.row_count(i) == 0;
         }
-        let a = i * MOST_STATES;
-        let b = j * MOST_STATES;
-        let mut within = true;
         // Each column is looked at, also once one is missing, so that many can be looked at together.
-        for k in 0..MOST_STATES {
-            within &= (self.bytes[a + k] != 1) | (other.bytes[b + k] == 1);
-        }
-        within
+        self.row(i)
+            .iter()
+            .zip(other.row(j))
+            .fold(true, |within, (x, y)| within & ((*x != 1) | (*y == 1)))
     }
 }

@@ -28,6 +28,7 @@ impl PairTable {
         requires room { from + 2 * length (partners_below (kept_pairs self.now) first 128) ≤ length buffer.old }
         ensures { Placed (partners_below (kept_pairs self.now) first 128) buffer.old buffer.new from result }
     {
+        // The place where the next row goes is what is handed back, so it is counted here: chunks of the buffer would not tell it.
         let mut at = from;
         for second in 0..MOST_STATES {
             if self.stands(first, second) {
@@ -44,6 +45,7 @@ impl PairTable {
         requires { 6 + 2 * pair_count (kept_pairs self.now) ≤ length buffer.old }
         ensures { Placed (listing (kept_pairs self.now)) buffer.old buffer.new 6 result }
     {
+        // Each call writes to the buffer that is lent, so this is a loop and no fold.
         let mut at = HEADER;
         for first in 0..MOST_STATES {
             at = self.write_partners(first, buffer, at);
