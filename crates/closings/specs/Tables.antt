@@ -1,5 +1,5 @@
 -- Tables of pairs of states: next closings, and what they cover.
-use Rattle.std.specs.Prelude.{◌≡◌, ℕ, ◌<◌, ◌⊎◌, Decides}
+use Rattle.std.specs.Prelude.{ℕ, Decides}
 use Rattle.plan.specs.Model.{Model}
 use Rattle.plan.specs.Runs.{Marked, NextClosing}
 use Rattle.pairs.specs.Pairs.{Pairs, Has}
@@ -7,14 +7,6 @@ use Rattle.pairs.specs.Pairs.{Pairs, Has}
 -- the table has just the pairs with P
 abbrev pub Tabulates : (ℕ → ℕ → Type 0) → Pairs → Type 0
 Tabulates P table = (s x : ℕ) → Decides (table s x) (P s x)
-
--- the same of the rows below k alone
-abbrev pub RowsBelow : (ℕ → ℕ → Type 0) → ℕ → Pairs → Type 0
-RowsBelow P k table = (s x : ℕ) → Decides (table s x) ((s < k) × P s x)
-
--- what P has in the first k places of row s was put in
-abbrev pub RowAdded : (ℕ → ℕ → Type 0) → ℕ → ℕ → Pairs → Pairs → Type 0
-RowAdded P s k old new = (x y : ℕ) → Decides (new x y) (Has old x y ⊎ ((x ≡ s) × (y < k) × P s y))
 
 -- x is a next closing of the closing s
 abbrev pub Follows : Model → ℕ → ℕ → Type 0

@@ -1,42 +1,31 @@
 // The next closings of a plan, walked once for each closing.
-ghost use Rattle.std.specs.Prelude.{◌≡◌, false, ◌&&◌, slice_index_or};
-ghost use Rattle.plan.specs.Runs.{Marked};
+ghost use Rattle.std.specs.Prelude.{ℕ, false, Decides, slice_index_or};
 ghost use Rattle.pairs.specs.Pairs.{kept_pairs};
-ghost use Rattle.closings.specs.Tables.{Tabulates, RowAdded, Follows};
+ghost use Rattle.closings.specs.Tables.{Tabulates, Follows};
 
 use pairs::PairTable;
-use plan::Plan;
+use plan::{MOST_STATES, Plan};
+use std::array;
 use walk::{has, led_from};
 
-// Is this state marked, and one of those that a walk reached?
-fn is_closing<P: Plan>(plan: &P, reached: &[bool; 128], state: usize) -> bool
-    ensures { result ≡ (slice_index_or reached.now state false && (P.meaning plan.now).mark state) }
+// The next closings of this state, if it is a closing; none otherwise.
+fn closings_after<P: Plan>(plan: &P, state: usize) -> [bool; MOST_STATES]
+    ensures { (t : ℕ) → Decides (slice_index_or result t false) (Follows (P.meaning plan.now) state t) }
 {
-    has(reached, state) & plan.marked(state)
-}
-
-// Puts in the pairs of a closing and its next closings.
-fn put_closings<P: Plan>(plan: &P, state: usize, next: &mut PairTable)
-    requires { Marked (P.meaning plan.now) state }
-    ensures { RowAdded (Follows (P.meaning plan.now)) state (P.meaning plan.now).states (kept_pairs next.old) (kept_pairs next.new) }
-{
-    let led = led_from(plan, state);
-    for t in 0..plan.states() {
-        if is_closing(plan, &led, t) {
-            next.put(state, t);
-        }
+    if !plan.marked(state) {
+        return [false; MOST_STATES];
     }
+    let led = led_from(plan, state);
+    array::from_fn(|t| has(&led, t) & plan.marked(t))
 }
 
 // The pairs of each closing and its next closings.
 pub fn next_closings<P: Plan>(plan: &P) -> PairTable
     ensures { Tabulates (Follows (P.meaning plan.now)) (kept_pairs result) }
 {
-    let mut next = PairTable::empty();
-    for s in 0..plan.states() {
-        if plan.marked(s) {
-            put_closings(plan, s, &mut next);
-        }
-    }
-    next
+    PairTable::from_rows(
+        |state| -> [bool; MOST_STATES]
+            ensures { (t : ℕ) → Decides (slice_index_or result t false) (Follows (P.meaning plan.entry.now) state t) }
+        { closings_after(plan, state) },
+    )
 }

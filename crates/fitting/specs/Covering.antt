@@ -10,15 +10,15 @@ use Rattle.fitting.specs.Judging.{IsUncovered}
 
 -- the next closings of both plans, and which of them are covered
 pub record Covers (a b : Model) (pairs : Pairs) (c : Covering) : Type 0 where
-  pub first_next : Tabulates (Follows a) (kept_pairs c.first_next)
-  pub second_next : Tabulates (Follows b) (kept_pairs c.second_next)
-  pub first_covered : Tabulates (CoveredBy (kept_pairs c.second_next) pairs) (kept_pairs c.first_covered)
-  pub second_covered : Tabulates (CoveredBy (kept_pairs c.first_next) (exchanged pairs)) (kept_pairs c.second_covered)
+  pub first_next : Tabulates (Follows a) (kept_pairs c.next.first)
+  pub second_next : Tabulates (Follows b) (kept_pairs c.next.second)
+  pub first_covered : Tabulates (CoveredBy (kept_pairs c.next.second) pairs) (kept_pairs c.covered.first)
+  pub second_covered : Tabulates (CoveredBy (kept_pairs c.next.first) (exchanged pairs)) (kept_pairs c.covered.second)
 
 -- by these tables, for the pair of s and t, x is a next closing of this side's state and is not covered
 abbrev pub uncovered_in : Covering → Side → ℕ → ℕ → ℕ → Bool
-uncovered_in c First s t x = kept_pairs c.first_next s x && not (kept_pairs c.first_covered t x)
-uncovered_in c Second s t x = kept_pairs c.second_next t x && not (kept_pairs c.second_covered s x)
+uncovered_in c First s t x = kept_pairs c.next.first s x && not (kept_pairs c.covered.first t x)
+uncovered_in c Second s t x = kept_pairs c.next.second t x && not (kept_pairs c.covered.second s x)
 
 -- every pair of the set with a first state below k has P
 abbrev pub AllBelow : Pairs → (ℕ → ℕ → Type 0) → ℕ → Type 0

@@ -5,7 +5,7 @@ use Rattle.plan.specs.Runs.{Marked}
 use Rattle.pairs.specs.Pairs.{Pairs, Has, kept_pairs}
 use Rattle.closings.specs.Tables.{Tabulates, Follows, CoveredBy, exchanged}
 use Rattle.fitting.specs.Bisimilarity.{Matched, OnlyMarked}
-use Rattle.largest.specs.declared.round.Closings.{Closings}
+use Rattle.closings.specs.declared.sides.Closings.{Closings}
 use Rattle.largest.specs.Rounds.{NextRound}
 use Rattle.largest.specs.Sweeping.{CoveredIn, MatchedBy, Swept}
 use Rattle.largest.proofs.Sweeping.{swept_like}

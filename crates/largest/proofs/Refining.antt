@@ -6,7 +6,7 @@ use Rattle.pairs.specs.Pairs.{Pairs, Has, kept_pairs}
 use Rattle.closings.specs.Tables.{Tabulates, Follows}
 use Rattle.fitting.specs.Bisimilarity.{OnlyMarked}
 use Rattle.largest.specs.declared.nofit.NoFit.TheVariants.{NoneFits}
-use Rattle.largest.specs.declared.round.Closings.{Closings}
+use Rattle.closings.specs.declared.sides.Closings.{Closings}
 use Rattle.largest.specs.Rounds.{Round, NextRound}
 use Rattle.largest.specs.Finding.{FitAsked}
 use Rattle.largest.specs.Sweeping.{MatchedBy, Swept}

@@ -3,7 +3,7 @@ use Rattle.std.specs.Prelude.{◌≡◌, ℕ, ◌<◌, Bool, Decides, MatchBool}
 use Rattle.pairs.specs.Pairs.{Pairs, Has, RowWithin, kept_pairs}
 use Rattle.pairs.specs.Listing.{pair_count}
 use Rattle.closings.specs.Tables.{CoveredBy, exchanged}
-use Rattle.largest.specs.declared.round.Closings.{Closings}
+use Rattle.closings.specs.declared.sides.Closings.{Closings}
 
 -- By these tables every next closing of either state is covered: next closings by closing, covered ones by the state of the other
 -- plan that covers them.

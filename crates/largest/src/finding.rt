@@ -7,8 +7,8 @@ ghost use Rattle.largest.specs.Finding.{FitAsked, FindsLargest, kept_result};
 
 use crate::first::compatible_pairs;
 use crate::nofit::NoFit;
-use crate::round::{Closings, next_round};
-use closings::next_closings;
+use crate::round::next_round;
+use closings::Closings;
 use fitting::compare_plans;
 use pairs::PairTable;
 use plan::Plan;
@@ -20,10 +20,7 @@ fn refine<A: Plan, B: Plan, R: Rule>(compared: &Compared<'_, A, B, R>) -> Result
     requires { (A.meaning compared.now.first.now).channels ≡ (B.meaning compared.now.second.now).channels }
     ensures { FitAsked (A.meaning compared.now.first.now) (B.meaning compared.now.second.now) (R.says compared.now.rule.now) (kept_result result) }
 {
-    let next = Closings {
-        first: next_closings(compared.first),
-        second: next_closings(compared.second),
-    };
+    let next = Closings::next(compared.first, compared.second);
     let mut pairs = compatible_pairs(compared);
     while next_round(&next, &mut pairs) {}
     if pairs.stands(compared.first.start(), compared.second.start()) {

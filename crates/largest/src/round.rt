@@ -3,16 +3,9 @@ ghost use Rattle.std.specs.Prelude.{Decides};
 ghost use Rattle.pairs.specs.Pairs.{kept_pairs};
 ghost use Rattle.largest.specs.Sweeping.{CoveredIn, MatchedBy, RowSwept, Swept, Tells};
 
-use closings::covered_by;
+use closings::Closings;
 use pairs::PairTable;
 use plan::MOST_STATES;
-
-// A table of closings for each plan.
-#[derive(Drop)]
-pub(crate) struct Closings {
-    pub(crate) first: PairTable,
-    pub(crate) second: PairTable,
-}
 
 // For this pair, is every next closing of either state covered by the other state?
 fn is_covered(next: &Closings, covered: &Closings, s: usize, t: usize) -> bool
@@ -41,10 +34,7 @@ pub(crate) fn next_round(next: &Closings, pairs: &mut PairTable) -> bool
     ensures sweeps { Swept (MatchedBy next.now (kept_pairs pairs.old)) (kept_pairs pairs.old) (kept_pairs pairs.new) }
     ensures tells { Tells result (kept_pairs pairs.old) (kept_pairs pairs.new) }
 {
-    let covered = Closings {
-        first: covered_by(&next.second, pairs),
-        second: covered_by(&next.first, &pairs.transposed()),
-    };
+    let covered = next.covered(pairs);
     let mut struck = false;
     for s in 0..MOST_STATES {
         struck |= strike_row(next, &covered, s, pairs);

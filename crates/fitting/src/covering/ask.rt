@@ -4,7 +4,7 @@ ghost use Rattle.pairs.specs.Pairs.{kept_pairs};
 ghost use Rattle.fitting.specs.Covering.{uncovered_in, Covers};
 
 use super::Covering;
-use closings::{covered_by, next_closings};
+use closings::Closings;
 use pairs::PairTable;
 use plan::{Plan, Side};
 use rules::{Compared, Rule};
@@ -17,16 +17,9 @@ impl Covering {
     ) -> Covering
         ensures { Covers (A.meaning compared.now.first.now) (B.meaning compared.now.second.now) (kept_pairs pairs.now) result }
     {
-        let first_next = next_closings(compared.first);
-        let second_next = next_closings(compared.second);
-        let first_covered = covered_by(&second_next, pairs);
-        let second_covered = covered_by(&first_next, &pairs.transposed());
-        Covering {
-            first_next,
-            second_next,
-            first_covered,
-            second_covered,
-        }
+        let next = Closings::next(compared.first, compared.second);
+        let covered = next.covered(pairs);
+        Covering { next, covered }
     }
 
     // For this pair, is this a next closing of the side's state that is not covered?
@@ -35,10 +28,10 @@ impl Covering {
     {
         match side {
             Side::First => {
-                self.first_next.stands(s, closing) & !self.first_covered.stands(t, closing)
+                self.next.first.stands(s, closing) & !self.covered.first.stands(t, closing)
             }
             Side::Second => {
-                self.second_next.stands(t, closing) & !self.second_covered.stands(s, closing)
+                self.next.second.stands(t, closing) & !self.covered.second.stands(s, closing)
             }
         }
     }

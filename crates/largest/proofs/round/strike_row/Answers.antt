@@ -2,7 +2,7 @@ use Rattle.std.proofs.Common.{◌≡◌, ℕ, ◌+◌, Bool, sym, refl, ◌∙�
 use Rattle.std.proofs.lemmas.Bool.{both_ways}
 use Rattle.pairs.specs.Pairs.{Pairs, Has, kept_pairs}
 use Rattle.pairs.specs.declared.table.PairTable.{PairTable}
-use Rattle.closings.proofs.Tables.{has_below}
+use Rattle.pairs.proofs.Made.{kept_within}
 use Rattle.largest.specs.Sweeping.{CoveredIn, RowSwept, Tells}
 use Rattle.largest.proofs.Sweeping.{row_none, row_kept, row_struck, strike_tells}
 use Rattle.largest.proofs.round.strike_row.Goals as goal
@@ -30,7 +30,7 @@ loop-t-preserved c =
           let has : Has mid s t = sym c.stands.ensures ∙ w.if-stands.true in
           moved P s (t + 1) old _ _ _ _ w.pairs-is w.struck-is (
             row_struck P s old t mid _ c.loop-t.invariant.0 (λ covered. both_ways w.is_covered.result w.if-not-is_covered.true (w.is_covered.ensures.1 covered)) w.strike.ensures,
-            strike_tells c.loop-t.struck old mid _ s t c.loop-t.invariant.1 (has_below c.loop-t.pairs s t has).0 c.loop-t-test.true has w.strike.ensures,
+            strike_tells c.loop-t.struck old mid _ s t c.loop-t.invariant.1 (kept_within c.loop-t.pairs s t has).0 c.loop-t-test.true has w.strike.ensures,
           )
       | else-stands w ↦
           moved P s (t + 1) old _ _ _ _ w.pairs-is w.struck-is (
