@@ -85,7 +85,8 @@ impl PairTable {
         pairs
     }
 
-    // The pairs of which the rows say yes, each row by its first state.
+    // The pairs of which the rows say yes, each row by its first state. (`from_fn` is not this with an array made of its test: each place
+    // would go through an array, and a reader through two closures.)
     pub fn from_rows<F: Fn(usize) -> [bool; MOST_STATES]>(rows: F) -> PairTable
         requires { F.IsAlwaysCallable rows }
         ensures { (s t : ℕ) → s < 128 → t < 128 → RowSays (F.post rows) s t (kept_pairs result s t) }
