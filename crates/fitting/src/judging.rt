@@ -1,5 +1,5 @@
 // Judging a set of pairs: the questions in their order.
-ghost use Rattle.std.specs.Prelude.{◌≡◌, true, is_ok, Err, Decides, MatchOption, MatchResult};
+ghost use Rattle.std.specs.Prelude.{◌≡◌, true, is_ok, Err, Decides, MatchResult};
 ghost use Rattle.plan.specs.Runs.{Sound};
 ghost use Rattle.vet.specs.Findings.{Finds};
 ghost use Rattle.pairs.specs.Pairs.{kept_pairs};
@@ -43,20 +43,20 @@ pub fn compare_plans<A: Plan, B: Plan>(
     Ok(())
 }
 
-// The refusal of the first pair that is not acceptable.
-fn first_unacceptable<A: Plan, B: Plan, R: Rule>(
+// Is every pair acceptable? The first that is not is named.
+fn check_acceptable<A: Plan, B: Plan, R: Rule>(
     compared: &Compared<'_, A, B, R>,
     pairs: &PairTable,
-) -> Option<Misfit>
+) -> Result<(), Misfit>
     requires as_many { (A.meaning compared.now.first.now).channels ≡ (B.meaning compared.now.second.now).channels }
     requires only_marked { OnlyMarked (A.meaning compared.now.first.now) (B.meaning compared.now.second.now) (kept_pairs pairs.now) }
-    ensures { MatchOption result (AllAcceptable (A.meaning compared.now.first.now) (B.meaning compared.now.second.now) (R.says compared.now.rule.now) (kept_pairs pairs.now)) (λ m. NamesUnacceptable (A.meaning compared.now.first.now) (B.meaning compared.now.second.now) (R.says compared.now.rule.now) (kept_pairs pairs.now) (Err m)) }
+    ensures { MatchResult result (λ _. AllAcceptable (A.meaning compared.now.first.now) (B.meaning compared.now.second.now) (R.says compared.now.rule.now) (kept_pairs pairs.now)) (λ m. NamesUnacceptable (A.meaning compared.now.first.now) (B.meaning compared.now.second.now) (R.says compared.now.rule.now) (kept_pairs pairs.now) (Err m)) }
 {
     for s in 0..compared.first.states() {
         for t in 0..compared.second.states() {
             if pairs.stands(s, t) {
                 if let Some(channel) = compared.lowest_refused(s, t) {
-                    return Some(Misfit::Unacceptable {
+                    return Err(Misfit::Unacceptable {
                         first: s,
                         second: t,
                         channel,
@@ -65,19 +65,19 @@ fn first_unacceptable<A: Plan, B: Plan, R: Rule>(
             }
         }
     }
-    None
+    Ok(())
 }
 
-// The refusal of the first closing that is not covered: pairs in ascending order, the first side before the second, the lowest
-// closing first.
-fn first_uncovered<A: Plan, B: Plan, R: Rule>(
+// Is every next closing covered? The first that is not is named: pairs in ascending order, the first side before the second, the
+// lowest closing first.
+fn check_covered<A: Plan, B: Plan, R: Rule>(
     compared: &Compared<'_, A, B, R>,
     pairs: &PairTable,
     covering: &Covering,
-) -> Option<Misfit>
+) -> Result<(), Misfit>
     requires covers { Covers (A.meaning compared.now.first.now) (B.meaning compared.now.second.now) (kept_pairs pairs.now) covering.now }
     requires only_marked { OnlyMarked (A.meaning compared.now.first.now) (B.meaning compared.now.second.now) (kept_pairs pairs.now) }
-    ensures { MatchOption result (AllCovered (A.meaning compared.now.first.now) (B.meaning compared.now.second.now) (kept_pairs pairs.now)) (λ m. NamesUncovered (A.meaning compared.now.first.now) (B.meaning compared.now.second.now) (kept_pairs pairs.now) (Err m)) }
+    ensures { MatchResult result (λ _. AllCovered (A.meaning compared.now.first.now) (B.meaning compared.now.second.now) (kept_pairs pairs.now)) (λ m. NamesUncovered (A.meaning compared.now.first.now) (B.meaning compared.now.second.now) (kept_pairs pairs.now) (Err m)) }
 {
     'pairs: {
         for s in 0..compared.first.states() {
@@ -86,7 +86,7 @@ fn first_uncovered<A: Plan, B: Plan, R: Rule>(
                     for side in [Side::First, Side::Second] {
                         for closing in 0..MOST_STATES {
                             if covering.is_uncovered(side, s, t, closing) {
-                                break 'pairs Some(Misfit::Uncovered {
+                                break 'pairs Err(Misfit::Uncovered {
                                     side,
                                     first: s,
                                     second: t,
@@ -98,7 +98,7 @@ fn first_uncovered<A: Plan, B: Plan, R: Rule>(
                 }
             }
         }
-        None
+        Ok(())
     }
 }
 
@@ -114,15 +114,9 @@ fn judge_pairs<A: Plan, B: Plan, R: Rule>(
     if !pairs.stands(compared.first.start(), compared.second.start()) {
         return Err(Misfit::StartsApart);
     }
-    if let Some(misfit) = first_unacceptable(compared, pairs) {
-        return Err(misfit);
-    }
-    let covering = Covering::of(compared, pairs);
-    let count = pairs.count();
-    match first_uncovered(compared, pairs, &covering) {
-        Some(misfit) => Err(misfit),
-        None => Ok(count),
-    }
+    check_acceptable(compared, pairs)?;
+    check_covered(compared, pairs, &Covering::of(compared, pairs))?;
+    Ok(pairs.count())
 }
 
 // Judges whether a set of pairs fits. Tells how many pairs there are, or the first question that is answered no.

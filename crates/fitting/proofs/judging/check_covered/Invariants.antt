@@ -1,7 +1,7 @@
 use Rattle.pairs.specs.Pairs.{Has, kept_pairs}
 use Rattle.fitting.specs.Bisimilarity.{Matched}
 use Rattle.fitting.specs.Covering.{AllBelow, RowBelow, SidesCovered, ClosingsCovered}
-use Rattle.fitting.proofs.judging.first_uncovered.Given as goal
+use Rattle.fitting.proofs.judging.check_covered.Given as goal
 
 abbrev pub invariant-loop-closing : goal.invariant-loop-closing
 invariant-loop-closing g l = ClosingsCovered (g.A.Plan.meaning l.compared.first.now) (g.B.Plan.meaning l.compared.second.now) (kept_pairs l.pairs) l.side l.s l.t l.closing

@@ -7,8 +7,8 @@ use Rattle.fitting.specs.Covering.{uncovered_in, side_at}
 use Rattle.closings.proofs.Nexts.{marked_below}
 use Rattle.fitting.proofs.Scans.{all_none, all_more, row_more, first_such}
 use Rattle.fitting.proofs.Coverage.{uncovered_decides, sides_match, matched_covered, sides_none, sides_more, first_at}
-use Rattle.fitting.proofs.judging.first_uncovered.Goals as goal
-use Rattle.fitting.proofs.judging.first_uncovered.Goals.{then-stands+else-loop-side-test, else-stands}
+use Rattle.fitting.proofs.judging.check_covered.Goals as goal
+use Rattle.fitting.proofs.judging.check_covered.Goals.{then-stands+else-loop-side-test, else-stands}
 
 pub loop-s-init : goal.loop-s-init
 loop-s-init g c = all_none (kept_pairs c.args.pairs.now) _

@@ -4,8 +4,8 @@ use Rattle.rules.specs.Rules.{Acceptable}
 use Rattle.pairs.specs.Pairs.{kept_pairs}
 use Rattle.closings.proofs.Nexts.{marked_below}
 use Rattle.fitting.proofs.Scans.{all_none, all_more, row_more, first_such}
-use Rattle.fitting.proofs.judging.first_unacceptable.Goals as goal
-use Rattle.fitting.proofs.judging.first_unacceptable.Goals.{then-stands+in_default, else-stands}
+use Rattle.fitting.proofs.judging.check_acceptable.Goals as goal
+use Rattle.fitting.proofs.judging.check_acceptable.Goals.{then-stands+in_default, else-stands}
 
 pub loop-s-init : goal.loop-s-init
 loop-s-init g c = all_none (kept_pairs c.args.pairs.now) _

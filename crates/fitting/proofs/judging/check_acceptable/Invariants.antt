@@ -1,7 +1,7 @@
 use Rattle.rules.specs.Rules.{Acceptable}
 use Rattle.pairs.specs.Pairs.{kept_pairs}
 use Rattle.fitting.specs.Covering.{AllBelow, RowBelow}
-use Rattle.fitting.proofs.judging.first_unacceptable.Given as goal
+use Rattle.fitting.proofs.judging.check_acceptable.Given as goal
 
 abbrev pub invariant-loop-t : goal.invariant-loop-t
 invariant-loop-t g l =
