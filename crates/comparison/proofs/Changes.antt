@@ -1,5 +1,5 @@
 -- What a change of one pair keeps true.
-use Rattle.std.proofs.Common.{rules, tests, ◌≡◌, ℕ, ◌<◌, ◌≤◌, Bool, true, false, cond, not, eqb, ltb, Some, None, Option, Ok, sym, refl, ap, ◌∙◌, subst, ⊎_elim, arith}
+use Rattle.std.proofs.Common.{rules, tests, ◌≡◌, ℕ, ◌<◌, ◌≤◌, Bool, true, false, cond, not, eqb, ltb, Some, None, Option, Ok, sym, refl, subst, ⊎_elim, arith}
 use Rattle.std.proofs.lemmas.Bool.{and_parts, or_cases, ltb-true, lt-ltb, eqb-true, both_ways, and_from}
 use Rattle.plan.specs.Runs.{Marked}
 use Rattle.pairs.specs.Pairs.{Pairs, no_pairs, is_pair, with_pair, without_pair, fits_table}
@@ -7,7 +7,7 @@ use Rattle.comparison.specs.declared.refusal.PairRefusal.{PairRefusal}
 use Rattle.comparison.specs.declared.refusal.PairRefusal.TheVariants.{NoState, Unmarked}
 use Rattle.plan.specs.declared.answer.Side.TheVariants.{First, Second}
 use Rattle.comparison.specs.Settings.{Setting, OnlyMarked}
-use Rattle.comparison.specs.Calls.{pair_refused, or_refused, change_result, unless_refused, after_add, after_strike}
+use Rattle.comparison.specs.Calls.{pair_refused, or_refused}
 
 -- a pair that is not refused: both states exist and are marked
 pub record Allowed (setting : Setting) (s t : ℕ) : Type 0 where
@@ -43,7 +43,7 @@ allowed_fits setting s t few few' a =
     and_from (ltb s 128) (ltb t 128) (lt-ltb s 128 (omega (arith, a.first_exists))) (lt-ltb t 128 (omega (arith, a.second_exists)))
 
 module _ (setting : Setting) (pairs : Pairs) where
-  marked_with : (s t : ℕ) → Allowed setting s t → OnlyMarked setting pairs → OnlyMarked setting (with_pair pairs s t)
+  pub marked_with : (s t : ℕ) → Allowed setting s t → OnlyMarked setting pairs → OnlyMarked setting (with_pair pairs s t)
   marked_with s t a old x y e =
       ⊎_elim
       (λ (here : is_pair s t x y ≡ true).

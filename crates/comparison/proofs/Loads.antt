@@ -1,5 +1,5 @@
 -- Loading a pair file, row by row.
-use Rattle.std.proofs.Common.{◌≡◌, ℕ, zero, suc, ◌+◌, ◌*◌, ◌<◌, ◌≤◌, true, false, cond, eqb, ltb, List, is_some, Some, None, sym, refl, ap, ◌∙◌, subst, ⊎_elim, add-one, arith}
+use Rattle.std.proofs.Common.{◌≡◌, ℕ, zero, suc, ◌+◌, ◌<◌, ◌≤◌, true, false, cond, eqb, ltb, List, is_some, Some, None, sym, refl, ap, ◌∙◌, subst, ⊎_elim, add-one, arith}
 use Rattle.std.proofs.lemmas.Bool.{lt-ltb, or_cases, and_parts, eqb-true, both_ways}
 use Rattle.plan.specs.Answers.{success}
 use Rattle.plan.specs.Runs.{Marked}
@@ -16,7 +16,7 @@ use Rattle.comparison.specs.declared.refusal.LoadRefusal.TheVariants.{BadFile, B
 use Rattle.comparison.specs.Settings.{Setting, OnlyMarked}
 use Rattle.comparison.specs.Calls.{row_refused, rows_asked, row_numbers, load_refusal_numbers, load_answer, after_load}
 use Rattle.comparison.specs.Loading.{RowsAllowed, RefusedRow, RowsFit}
-use Rattle.comparison.proofs.Changes.{allowed, allowed_fits}
+use Rattle.comparison.proofs.Changes.{allowed, allowed_fits, marked_with}
 
 -- one row more in the table
 pub fill_more : (b : List ℕ) (i : ℕ) (row : ℕ × ℕ) (old new : Pairs) → i < count_in b
@@ -35,16 +35,9 @@ module _ (setting : Setting) (b : List ℕ) where
 
   up_to_marked : (k : ℕ) → RowsAllowed setting b k → OnlyMarked setting (rows_up_to b k)
   up_to_marked zero rows x y e = absurd (both_ways false refl e)
-  up_to_marked (suc i) rows x y e =
-      ⊎_elim
-      (λ (here : is_pair (first_in b i) (second_in b i) x y ≡ true).
-      let a = allowed setting (first_in b i) (second_in b i) (rows i (omega arith)) in
-      let both = and_parts (eqb x (first_in b i)) (eqb y (second_in b i)) here in (
-        subst (Marked setting.first) (sym (eqb-true x (first_in b i) both.0)) a.first_marked,
-        subst (Marked setting.second) (sym (eqb-true y (second_in b i) both.1)) a.second_marked,
-      ))
-      (λ (there : rows_up_to b i x y ≡ true). up_to_marked i (λ j low. rows j (omega arith)) x y there)
-      (or_cases (is_pair (first_in b i) (second_in b i) x y) (rows_up_to b i x y) e)
+  up_to_marked (suc i) rows =
+      marked_with setting (rows_up_to b i) (first_in b i) (second_in b i) (allowed setting (first_in b i) (second_in b i) (rows i (omega arith)))
+      (up_to_marked i (λ j low. rows j (omega arith)))
 
   pub rows_marked : (pairs : Pairs) → pairs ≡ pairs_in b → RowsAllowed setting b (count_in b) → OnlyMarked setting pairs
   rows_marked pairs is rows = subst (OnlyMarked setting) (sym is) (up_to_marked (count_in b) rows)

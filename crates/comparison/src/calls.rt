@@ -44,6 +44,7 @@ impl<A: Plan, B: Plan, R: Rule> Comparison<A, B, R> {
                 needed: calls.len(),
             });
         }
+        // By index: where the places are lent out by `zip`, the proof does not know afterwards what was written into them.
         for (i, call) in calls.iter().enumerate() {
             answers[i] = self.call(call);
         }

@@ -1,4 +1,4 @@
-use Rattle.std.proofs.Common.{rules, ◌≡◌, ◌<◌, ap, sym, ◌∙◌, arith, lt-ltb}
+use Rattle.std.proofs.Common.{◌≡◌, ◌<◌, ap, ◌∙◌, arith}
 use Rattle.pairs.specs.PairFile.{count_in, rows_up_to}
 use Rattle.comparison.proofs.Loads.{fill_more}
 use Rattle.comparison.proofs.load.table_of.Goals as goal
