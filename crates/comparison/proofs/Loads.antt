@@ -1,12 +1,11 @@
 -- Loading a pair file, row by row.
-use Rattle.std.proofs.Common.{◌≡◌, ℕ, zero, suc, ◌+◌, ◌<◌, ◌≤◌, true, false, cond, eqb, ltb, List, is_some, Some, None, sym, refl, ap, ◌∙◌, subst, ⊎_elim, add-one, arith}
-use Rattle.std.proofs.lemmas.Bool.{lt-ltb, or_cases, and_parts, eqb-true, both_ways}
+use Rattle.std.proofs.Common.{◌≡◌, ℕ, zero, suc, ◌+◌, ◌<◌, ◌≤◌, true, false, cond, eqb, ltb, List, is_some, Some, None, sym, refl, ap, ◌∙◌, subst, add-one, arith}
+use Rattle.std.proofs.lemmas.Bool.{lt-ltb, both_ways}
 use Rattle.plan.specs.Answers.{success}
-use Rattle.plan.specs.Runs.{Marked}
 use Rattle.layout.specs.Lowest.{lowest}
 use Rattle.layout.proofs.LowestOf.{lowest_is, lowest_none}
 use Rattle.pairs.specs.declared.file.PairFile.{PairFile}
-use Rattle.pairs.specs.Pairs.{Pairs, is_pair, with_pair, fits_table}
+use Rattle.pairs.specs.Pairs.{Pairs, with_pair, fits_table}
 use Rattle.pairs.specs.PairFile.{count_in, first_in, second_in, rows_up_to, pairs_in}
 use Rattle.pairs.specs.Opened.{HeaderOf}
 use Rattle.pairs.proofs.Files.{asked_on}
@@ -35,9 +34,9 @@ module _ (setting : Setting) (b : List ℕ) where
 
   up_to_marked : (k : ℕ) → RowsAllowed setting b k → OnlyMarked setting (rows_up_to b k)
   up_to_marked zero rows x y e = absurd (both_ways false refl e)
-  up_to_marked (suc i) rows =
+  up_to_marked (suc i) rows x y e =
       marked_with setting (rows_up_to b i) (first_in b i) (second_in b i) (allowed setting (first_in b i) (second_in b i) (rows i (omega arith)))
-      (up_to_marked i (λ j low. rows j (omega arith)))
+      (up_to_marked i (λ j low. rows j (omega arith))) x y e
 
   pub rows_marked : (pairs : Pairs) → pairs ≡ pairs_in b → RowsAllowed setting b (count_in b) → OnlyMarked setting pairs
   rows_marked pairs is rows = subst (OnlyMarked setting) (sym is) (up_to_marked (count_in b) rows)
