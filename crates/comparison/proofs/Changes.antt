@@ -1,13 +1,13 @@
 -- What a change of one pair keeps true.
-use Rattle.std.proofs.Common.{◌≡◌, ℕ, ◌<◌, ◌≤◌, Bool, true, false, cond, not, eqb, ltb, Some, None, Ok, sym, refl, ap, ◌∙◌, subst, ⊎_elim, arith}
+use Rattle.std.proofs.Common.{rules, tests, ◌≡◌, ℕ, ◌<◌, ◌≤◌, Bool, true, false, cond, not, eqb, ltb, Some, None, Option, Ok, sym, refl, subst, ⊎_elim, arith}
 use Rattle.std.proofs.lemmas.Bool.{and_parts, or_cases, ltb-true, lt-ltb, eqb-true, both_ways, and_from}
 use Rattle.plan.specs.Runs.{Marked}
 use Rattle.pairs.specs.Pairs.{Pairs, no_pairs, is_pair, with_pair, without_pair, fits_table}
 use Rattle.comparison.specs.declared.refusal.PairRefusal.{PairRefusal}
 use Rattle.comparison.specs.declared.refusal.PairRefusal.TheVariants.{NoState, Unmarked}
-use Rattle.comparison.specs.declared.refusal.Side.TheVariants.{First, Second}
+use Rattle.plan.specs.declared.answer.Side.TheVariants.{First, Second}
 use Rattle.comparison.specs.Settings.{Setting, OnlyMarked}
-use Rattle.comparison.specs.Calls.{pair_refused, or_refused, change_result, unless_refused, after_add, after_strike}
+use Rattle.comparison.specs.Calls.{pair_refused, or_refused}
 
 -- a pair that is not refused: both states exist and are marked
 pub record Allowed (setting : Setting) (s t : ℕ) : Type 0 where
@@ -19,11 +19,12 @@ pub record Allowed (setting : Setting) (s t : ℕ) : Type 0 where
 by_tests : (a b c d : Bool) (w x y z : PairRefusal)
     → cond a (cond b (cond c (cond d None (Some z)) (Some y)) (Some x)) (Some w) ≡ None
     → (a ≡ true) × (b ≡ true) × (c ≡ true) × (d ≡ true)
-by_tests true true true true w x y z e = (refl, refl, refl, refl)
-by_tests true true true false w x y z e = let q : ◌≡◌ {A = ℕ} 0 1 = cc in absurd (omega arith)
-by_tests true true false d w x y z e = let q : ◌≡◌ {A = ℕ} 0 1 = cc in absurd (omega arith)
-by_tests true false c d w x y z e = let q : ◌≡◌ {A = ℕ} 0 1 = cc in absurd (omega arith)
-by_tests false b c d w x y z e = let q : ◌≡◌ {A = ℕ} 0 1 = cc in absurd (omega arith)
+by_tests a b c d w x y z e = search (rules, tests)
+
+-- what is not refused
+pub not_refused : (refusal : Option PairRefusal) (u : Unit {0}) → Ok u ≡ or_refused refusal tt → refusal ≡ None
+not_refused None u e = refl
+not_refused (Some refusal) u e = search (rules, tests)
 
 pub allowed : (setting : Setting) (s t : ℕ) → pair_refused setting s t ≡ None → Allowed setting s t
 allowed setting s t e =
@@ -42,9 +43,6 @@ allowed_fits setting s t few few' a =
     and_from (ltb s 128) (ltb t 128) (lt-ltb s 128 (omega (arith, a.first_exists))) (lt-ltb t 128 (omega (arith, a.second_exists)))
 
 module _ (setting : Setting) (pairs : Pairs) where
-  pub marked_none : OnlyMarked setting no_pairs
-  marked_none s t e = absurd (both_ways false refl e)
-
   pub marked_with : (s t : ℕ) → Allowed setting s t → OnlyMarked setting pairs → OnlyMarked setting (with_pair pairs s t)
   marked_with s t a old x y e =
       ⊎_elim
@@ -56,26 +54,17 @@ module _ (setting : Setting) (pairs : Pairs) where
       (λ (there : pairs x y ≡ true). old x y there)
       (or_cases (is_pair s t x y) (pairs x y) e)
 
-  pub marked_without : (s t : ℕ) → OnlyMarked setting pairs → OnlyMarked setting (without_pair pairs s t)
-  marked_without s t old x y e = old x y (and_parts (not (is_pair s t x y)) (pairs x y) e).1
+  marked_put : (fits : Bool) (s t : ℕ) → Allowed setting s t → OnlyMarked setting pairs → OnlyMarked setting (cond fits (with_pair pairs s t) pairs)
+  marked_put true s t a old = marked_with s t a old
+  marked_put false s t a old = old
 
--- a pair that is allowed was put in, or taken out
-module _ (setting : Setting) (pairs new : Pairs) (s t : ℕ) (stood : Bool) (not_refused : None ≡ pair_refused setting s t) (stood_is : stood ≡ pairs s t)
-    (marked : OnlyMarked setting pairs) where
-  pub change_answer : Ok stood ≡ change_result setting pairs s t
-  change_answer = ap Ok stood_is ∙ ap (λ o. or_refused o (pairs s t)) not_refused
+  -- only marked pairs stand where none does, where an allowed pair was put in, and where one was taken out
+  pub marked_none : pairs ≡ no_pairs → OnlyMarked setting pairs
+  marked_none is = rw is (λ s t e. absurd (both_ways false refl e))
 
-  pub added : setting.first.states ≤ 128 → setting.second.states ≤ 128 → new ≡ cond (fits_table s t) (with_pair pairs s t) pairs
-      → (new ≡ after_add setting pairs s t) × OnlyMarked setting new
-  added few few' is =
-      let a = allowed setting s t (sym not_refused) in
-      let now_with : new ≡ with_pair pairs s t = is ∙ ap (λ v. cond v (with_pair pairs s t) pairs) (allowed_fits setting s t few few' a) in (
-        now_with ∙ ap (λ o. unless_refused o (with_pair pairs s t) pairs) not_refused,
-        subst (OnlyMarked setting) (sym now_with) (marked_with setting pairs s t a marked),
-      )
+  pub marked_added : (new : Pairs) (s t : ℕ) → pair_refused setting s t ≡ None → new ≡ cond (fits_table s t) (with_pair pairs s t) pairs
+      → OnlyMarked setting pairs → OnlyMarked setting new
+  marked_added new s t may is old = subst (OnlyMarked setting) (sym is) (marked_put (fits_table s t) s t (allowed setting s t may) old)
 
-  pub struck : new ≡ without_pair pairs s t → (new ≡ after_strike setting pairs s t) × OnlyMarked setting new
-  struck is = (
-    is ∙ ap (λ o. unless_refused o (without_pair pairs s t) pairs) not_refused,
-    subst (OnlyMarked setting) (sym is) (marked_without setting pairs s t marked),
-  )
+  pub marked_struck : (new : Pairs) (s t : ℕ) → new ≡ without_pair pairs s t → OnlyMarked setting pairs → OnlyMarked setting new
+  marked_struck new s t is old = subst (OnlyMarked setting) (sym is) (λ x y e. old x y (and_parts (not (is_pair s t x y)) (pairs x y) e).1)

@@ -1,42 +1,30 @@
 -- Loading a pair file, row by row.
-use Rattle.std.proofs.Common.{◌≡◌, ℕ, zero, suc, ◌+◌, ◌*◌, ◌<◌, ◌≤◌, true, false, cond, eqb, ltb, List, is_some, Some, None, sym, refl, ap, ◌∙◌, subst, ⊎_elim, add-one, arith}
-use Rattle.std.proofs.lemmas.Bool.{lt-ltb, or_cases, and_parts, eqb-true, both_ways}
+use Rattle.std.proofs.Common.{◌≡◌, ℕ, zero, suc, ◌+◌, ◌<◌, ◌≤◌, true, false, cond, eqb, ltb, List, is_some, Some, None, sym, refl, ap, ◌∙◌, subst, add-one, arith}
+use Rattle.std.proofs.lemmas.Bool.{lt-ltb, both_ways}
 use Rattle.plan.specs.Answers.{success}
-use Rattle.plan.specs.Runs.{Marked}
-use Rattle.layout.specs.Bytes.{byte_at}
 use Rattle.layout.specs.Lowest.{lowest}
 use Rattle.layout.proofs.LowestOf.{lowest_is, lowest_none}
-use Rattle.pairs.specs.declared.header.PairHeader.{PairHeader}
-use Rattle.pairs.specs.Pairs.{Pairs, is_pair, with_pair, fits_table}
-use Rattle.pairs.specs.PairFile.{HeaderOf, count_in, first_in, second_in, rows_up_to, pairs_in}
+use Rattle.pairs.specs.declared.file.PairFile.{PairFile}
+use Rattle.pairs.specs.Pairs.{Pairs, with_pair, fits_table}
+use Rattle.pairs.specs.PairFile.{count_in, first_in, second_in, rows_up_to, pairs_in}
+use Rattle.pairs.specs.Opened.{HeaderOf}
 use Rattle.pairs.proofs.Files.{asked_on}
-use Rattle.comparison.specs.declared.refusal.PairRefusal.{PairRefusal}
 use Rattle.comparison.specs.declared.refusal.PairRefusal.TheVariants.{NoState, Unmarked}
+use Rattle.comparison.specs.declared.refusal.LoadRefusal.{LoadRefusal}
+use Rattle.comparison.specs.declared.refusal.LoadRefusal.TheVariants.{BadFile, BadRow}
 use Rattle.comparison.specs.Settings.{Setting, OnlyMarked}
-use Rattle.comparison.specs.Calls.{row_refused, rows_asked, row_numbers, pair_numbers, load_answer, after_load}
-use Rattle.comparison.specs.Loading.{RowsAllowed, LowestRefusedRow, RowsFit}
-use Rattle.comparison.proofs.Changes.{allowed, allowed_fits}
-
--- what a header gives as row i is row i of the file
-pub row_is : (b : List ℕ) (h : PairHeader) (i : ℕ) (row : ℕ × ℕ) → HeaderOf b h → i < h.count
-    → row ≡ cond (ltb i h.count) (byte_at b (h.rows + 2 * i), byte_at b (h.rows + 2 * i + 1)) (0, 0)
-    → (row.0 ≡ first_in b i) × (row.1 ≡ second_in b i)
-row_is b h i row header low is =
-    let there : row ≡ (byte_at b (h.rows + 2 * i), byte_at b (h.rows + 2 * i + 1)) = is ∙ ap (λ t. cond t (byte_at b (h.rows + 2 * i), byte_at b (h.rows + 2 * i + 1)) (0, 0)) (lt-ltb i h.count low) in (
-      ap (λ r. r.0) there ∙ ap (λ k. byte_at b (k + 2 * i)) header.rows_read,
-      ap (λ r. r.1) there ∙ ap (λ k. byte_at b (k + 2 * i + 1)) header.rows_read,
-    )
+use Rattle.comparison.specs.Calls.{row_refused, rows_asked, row_numbers, load_refusal_numbers, load_answer, after_load}
+use Rattle.comparison.specs.Loading.{RowsAllowed, RefusedRow, RowsFit}
+use Rattle.comparison.proofs.Changes.{allowed, allowed_fits, marked_with}
 
 -- one row more in the table
-pub fill_more : (b : List ℕ) (i s t : ℕ) (old new : Pairs) → s ≡ first_in b i → t ≡ second_in b i → fits_table (first_in b i) (second_in b i) ≡ true
-    → old ≡ rows_up_to b i → new ≡ cond (fits_table s t) (with_pair old s t) old → new ≡ rows_up_to b (i + 1)
-fill_more b i s t old new s_is t_is fits old_is new_is =
-    new_is
-    ∙ ap (λ x. cond (fits_table x t) (with_pair old x t) old) s_is
-    ∙ ap (λ y. cond (fits_table (first_in b i) y) (with_pair old (first_in b i) y) old) t_is
-    ∙ ap (λ v. cond v (with_pair old (first_in b i) (second_in b i)) old) fits
-    ∙ ap (λ pairs. with_pair pairs (first_in b i) (second_in b i)) old_is
-    ∙ ap (rows_up_to b) (sym (add-one i))
+pub fill_more : (b : List ℕ) (i : ℕ) (row : ℕ × ℕ) (old new : Pairs) → i < count_in b
+    → row ≡ cond (ltb i (count_in b)) (first_in b i, second_in b i) (0, 0)
+    → fits_table (first_in b i) (second_in b i) ≡ true
+    → old ≡ rows_up_to b i → new ≡ cond (fits_table row.0 row.1) (with_pair old row.0 row.1) old → new ≡ rows_up_to b (i + 1)
+fill_more b i row old new low row_is fits old_is new_is =
+    let here : row ≡ (first_in b i, second_in b i) = rw (lt-ltb i (count_in b) low) at row_is in
+    new_is ∙ rw (here, fits, old_is) (ap (rows_up_to b) (sym (add-one i)))
 
 -- rows that are allowed fit the table, and join only marked states
 module _ (setting : Setting) (b : List ℕ) where
@@ -44,45 +32,47 @@ module _ (setting : Setting) (b : List ℕ) where
   rows_fit_table few few' k rows i low =
       allowed_fits setting (first_in b i) (second_in b i) few few' (allowed setting (first_in b i) (second_in b i) (rows i low))
 
-  pub rows_marked : (k : ℕ) → RowsAllowed setting b k → OnlyMarked setting (rows_up_to b k)
-  rows_marked zero rows x y e = absurd (both_ways false refl e)
-  rows_marked (suc i) rows x y e =
-      ⊎_elim
-      (λ (here : is_pair (first_in b i) (second_in b i) x y ≡ true).
-      let a = allowed setting (first_in b i) (second_in b i) (rows i (omega arith)) in
-      let both = and_parts (eqb x (first_in b i)) (eqb y (second_in b i)) here in (
-        subst (Marked setting.first) (sym (eqb-true x (first_in b i) both.0)) a.first_marked,
-        subst (Marked setting.second) (sym (eqb-true y (second_in b i) both.1)) a.second_marked,
-      ))
-      (λ (there : rows_up_to b i x y ≡ true). rows_marked i (λ j low. rows j (omega arith)) x y there)
-      (or_cases (is_pair (first_in b i) (second_in b i) x y) (rows_up_to b i x y) e)
+  up_to_marked : (k : ℕ) → RowsAllowed setting b k → OnlyMarked setting (rows_up_to b k)
+  up_to_marked zero rows x y e = absurd (both_ways false refl e)
+  up_to_marked (suc i) rows x y e =
+      marked_with setting (rows_up_to b i) (first_in b i) (second_in b i) (allowed setting (first_in b i) (second_in b i) (rows i (omega arith)))
+      (up_to_marked i (λ j low. rows j (omega arith))) x y e
 
-  module _ (h : PairHeader) (header : HeaderOf b h) where
-    -- all rows are allowed: success
-    pub load_accepted : RowsAllowed setting b (count_in b) → load_answer setting b ≡ success (count_in b) 0
-    load_accepted rows =
-        let none : lowest (λ i. is_some (row_refused setting b i)) (count_in b) ≡ None =
-        lowest_none (λ i. is_some (row_refused setting b i)) (count_in b) (λ i low. ap is_some (rows i low)) in
-        asked_on b header.frame header.in_order _ ∙ ap (rows_asked setting b) none
+  pub rows_marked : (pairs : Pairs) → pairs ≡ pairs_in b → RowsAllowed setting b (count_in b) → OnlyMarked setting pairs
+  rows_marked pairs is rows = subst (OnlyMarked setting) (sym is) (up_to_marked (count_in b) rows)
 
-    -- the lowest row that is refused
-    pub load_refused : (found : ℕ × PairRefusal) → LowestRefusedRow setting b found → load_answer setting b ≡ pair_numbers found.0 found.1
-    load_refused found low =
-        let at : lowest (λ i. is_some (row_refused setting b i)) (count_in b) ≡ Some found.0 =
-        lowest_is (λ i. is_some (row_refused setting b i)) (count_in b) found.0
-        (record { below = low.is_row; passes = ap is_some low.is_refused; none_lower = λ k h'. ap is_some (low.earlier_allowed k h') }) in
-        asked_on b header.frame header.in_order _
-        ∙ ap (rows_asked setting b) at
-        ∙ ap (λ o. row_numbers o found.0 (success (count_in b) 0)) low.is_refused
+-- what loading answers and leaves, from what was found in the opened file
+module _ (setting : Setting) (b : List ℕ) (file : PairFile) (header : HeaderOf b file) (pairs : Pairs) where
+  -- all rows are allowed
+  pub load_accepted : RowsAllowed setting file.bytes.now (count_in file.bytes.now) → load_answer setting b ≡ success (count_in file.bytes.now) 0
+  load_accepted rows =
+      let allowed_rows : RowsAllowed setting b (count_in b) = rw header.bytes_are at rows in
+      let none : lowest (λ i. is_some (row_refused setting b i)) (count_in b) ≡ None =
+      lowest_none (λ i. is_some (row_refused setting b i)) (count_in b) (λ i low. ap is_some (allowed_rows i low)) in
+      rw header.bytes_are (asked_on b header.frame header.in_order _ ∙ ap (rows_asked setting b) none)
 
-  -- a refused file leaves the pairs
-  pub kept_after : (pairs : Pairs) → eqb (load_answer setting b).number 0 ≡ false → pairs ≡ after_load setting pairs b
-  kept_after pairs no-success = sym (ap (λ v. cond v (pairs_in b) pairs) no-success)
+  pub pairs_loaded : RowsAllowed setting file.bytes.now (count_in file.bytes.now) → pairs_in file.bytes.now ≡ after_load setting pairs b
+  pairs_loaded rows = rw (load_accepted rows, header.bytes_are) refl
 
-  pub loaded_after : (pairs : Pairs) → eqb (load_answer setting b).number 0 ≡ true → pairs_in b ≡ after_load setting pairs b
-  loaded_after pairs done = sym (ap (λ v. cond v (pairs_in b) pairs) done)
+  -- a row is refused
+  row_refused_answer : (refusal : LoadRefusal) → RefusedRow setting b refusal → load_answer setting b ≡ load_refusal_numbers refusal
+  row_refused_answer (BadFile refusal) none = absurd none
+  row_refused_answer (BadRow row refusal) low =
+      let at : lowest (λ i. is_some (row_refused setting b i)) (count_in b) ≡ Some row =
+      lowest_is (λ i. is_some (row_refused setting b i)) (count_in b) row
+      (record { below = low.is_row; passes = ap is_some low.is_refused; none_lower = λ k h. ap is_some (low.earlier_allowed k h) }) in
+      asked_on b header.frame header.in_order _
+      ∙ ap (rows_asked setting b) at
+      ∙ ap (λ o. row_numbers o row (success (count_in b) 0)) low.is_refused
 
--- a refused row is no success
-pub refused_number : (p : ℕ) (refusal : PairRefusal) → eqb (pair_numbers p refusal).number 0 ≡ false
-refused_number p (NoState side) = refl
-refused_number p (Unmarked side) = refl
+  pub load_refused : (refusal : LoadRefusal) → RefusedRow setting file.bytes.now refusal → load_answer setting b ≡ load_refusal_numbers refusal
+  load_refused refusal low = row_refused_answer refusal (rw header.bytes_are at low)
+
+  -- a refused row is no success
+  no_success : (refusal : LoadRefusal) → RefusedRow setting file.bytes.now refusal → eqb (load_refusal_numbers refusal).number 0 ≡ false
+  no_success (BadFile refusal) none = absurd none
+  no_success (BadRow row (NoState side)) low = refl
+  no_success (BadRow row (Unmarked side)) low = refl
+
+  pub pairs_kept : (refusal : LoadRefusal) → RefusedRow setting file.bytes.now refusal → pairs ≡ after_load setting pairs b
+  pairs_kept refusal low = rw (load_refused refusal low, no_success refusal low) refl

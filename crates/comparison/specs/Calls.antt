@@ -1,13 +1,12 @@
 -- What each call answers, and which pairs stand after it, from the setting and the pairs that stood before.
 use Rattle.std.specs.Prelude.{ℕ, Bool, cond, List, is_some, Some, None, Ok, Err, Option, Result, ◌==◌, nat_lt}
 use Rattle.plan.specs.declared.answer.Answer.{Answer}
-use Rattle.plan.specs.Answers.{numbers, success}
+use Rattle.plan.specs.declared.answer.Side.TheVariants.{First, Second}
+use Rattle.plan.specs.Answers.{numbers, success, side_number, counted_numbers, changed_numbers}
 use Rattle.layout.specs.Lowest.{lowest}
 use Rattle.layout.specs.Refusals.{refusal_numbers}
 use Rattle.pairs.specs.Pairs.{Pairs, with_pair, without_pair}
 use Rattle.pairs.specs.PairFile.{count_in, first_in, second_in, pairs_in, file_asked}
-use Rattle.comparison.specs.declared.refusal.Side.{Side}
-use Rattle.comparison.specs.declared.refusal.Side.TheVariants.{First, Second}
 use Rattle.comparison.specs.declared.refusal.PairRefusal.{PairRefusal}
 use Rattle.comparison.specs.declared.refusal.PairRefusal.TheVariants.{NoState, Unmarked}
 use Rattle.comparison.specs.declared.refusal.LoadRefusal.{LoadRefusal}
@@ -25,11 +24,6 @@ pair_refused setting s t =
     (Some (NoState Second)))
     (Some (NoState First))
 
--- 1 or 2
-abbrev pub side_number : Side → ℕ
-side_number First = 1
-side_number Second = 2
-
 -- 13: no such state; 14: not marked. p is the row of a pair file, or 0
 abbrev pub pair_numbers : ℕ → PairRefusal → Answer
 pair_numbers p (NoState side) = numbers 13 (side_number side) p 0 0
@@ -45,8 +39,7 @@ change_result setting pairs s t = or_refused (pair_refused setting s t) (pairs s
 
 -- the five numbers: p is 1 if the pair stood before, else 0
 abbrev pub change_numbers : Result Bool PairRefusal → Answer
-change_numbers (Ok stood) = numbers 0 0 (cond stood 1 0) 0 0
-change_numbers (Err refusal) = pair_numbers 0 refusal
+change_numbers = changed_numbers (pair_numbers 0)
 
 -- a refused call leaves the pairs as they were
 abbrev pub unless_refused : Option PairRefusal → Pairs → Pairs → Pairs
@@ -85,5 +78,4 @@ load_refusal_numbers (BadFile refusal) = refusal_numbers refusal
 load_refusal_numbers (BadRow row refusal) = pair_numbers row refusal
 
 abbrev pub load_numbers : Result ℕ LoadRefusal → Answer
-load_numbers (Ok count) = success count 0
-load_numbers (Err refusal) = load_refusal_numbers refusal
+load_numbers = counted_numbers load_refusal_numbers

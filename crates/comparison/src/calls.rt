@@ -1,13 +1,10 @@
 // Lists of calls on a comparison.
-ghost use Rattle.std.specs.Prelude.{◌≡◌, MatchResult};
-ghost use Rattle.plan.specs.Answers.{numbers};
+ghost use Rattle.std.specs.Prelude.{MatchResult};
 ghost use Rattle.comparison.specs.Settings.{setting_of, standing, Consistent, SameSetting};
-ghost use Rattle.comparison.specs.Calls.{change_numbers, load_numbers};
 ghost use Rattle.comparison.specs.Histories.{Does, Ran, NotRun, OneHistory};
 
 use crate::Comparison;
-use crate::refusal::{LoadRefusal, PairRefusal};
-use plan::{Answer, Plan};
+use plan::{Answer, Outcome, Plan, TooShort};
 use rules::Rule;
 
 // One call. A file is lent.
@@ -16,42 +13,6 @@ pub enum Call<'a> {
     Add(usize, usize),
     Strike(usize, usize),
     Load(&'a [u8]),
-}
-
-// The slice for the answers is shorter than the list of calls.
-#[derive(Clone, Copy, PartialEq, Eq, Debug)]
-pub struct TooShort {
-    // How many answers there are.
-    pub needed: usize,
-}
-
-impl TooShort {
-    // The five numbers of this refusal.
-    pub fn answer(self) -> Answer
-        ensures { result ≡ numbers 22 0 self.needed 0 0 }
-    {
-        Answer::refusal(22, 0, self.needed, 0)
-    }
-}
-
-// The five numbers of ADD or STRIKE.
-fn change_answer(res: Result<bool, PairRefusal>) -> Answer
-    ensures { result ≡ change_numbers res }
-{
-    match res {
-        Ok(stood) => Answer::success(if stood { 1 } else { 0 }, 0),
-        Err(refusal) => refusal.answer(0),
-    }
-}
-
-// The five numbers of LOAD.
-fn load_answer(res: Result<usize, LoadRefusal>) -> Answer
-    ensures { result ≡ load_numbers res }
-{
-    match res {
-        Ok(count) => Answer::success(count, 0),
-        Err(refusal) => refusal.answer(),
-    }
 }
 
 impl<A: Plan, B: Plan, R: Rule> Comparison<A, B, R> {
@@ -63,9 +24,9 @@ impl<A: Plan, B: Plan, R: Rule> Comparison<A, B, R> {
         ensures consistent { Consistent (setting_of A.meaning B.meaning R.says self.new) (standing self.new) }
     {
         match call {
-            Call::Add(s, t) => change_answer(self.add(*s, *t)),
-            Call::Strike(s, t) => change_answer(self.strike(*s, *t)),
-            Call::Load(file) => load_answer(self.load(file)),
+            Call::Add(s, t) => self.add(*s, *t).answer(),
+            Call::Strike(s, t) => self.strike(*s, *t).answer(),
+            Call::Load(file) => self.load(file).answer(),
         }
     }
 
@@ -83,6 +44,7 @@ impl<A: Plan, B: Plan, R: Rule> Comparison<A, B, R> {
                 needed: calls.len(),
             });
         }
+        // By index: where the places are lent out by `zip`, the proof does not know afterwards what was written into them.
         for (i, call) in calls.iter().enumerate() {
             answers[i] = self.call(call);
         }

@@ -1,66 +1,54 @@
 // Loading the pairs of a pair file, all or none.
-ghost use Rattle.std.specs.Prelude.{◌≡◌, ◌<◌, MatchOption};
+ghost use Rattle.std.specs.Prelude.{◌≡◌, MatchResult};
 ghost use Rattle.pairs.specs.Pairs.{kept_pairs};
-ghost use Rattle.pairs.specs.PairFile.{HeaderOf, pairs_in, count_in};
+ghost use Rattle.pairs.specs.PairFile.{pairs_in, count_in};
 ghost use Rattle.comparison.specs.Settings.{setting_of, standing, Consistent, SameSetting};
 ghost use Rattle.comparison.specs.Calls.{load_answer, load_numbers, after_load};
-ghost use Rattle.comparison.specs.Loading.{RowsAllowed, LowestRefusedRow, RowsFit};
+ghost use Rattle.comparison.specs.Loading.{RowsAllowed, RefusedRow, RowsFit};
 
 use crate::Comparison;
-use crate::refusal::{LoadRefusal, PairRefusal};
-use pairs::{PairHeader, PairTable};
+use crate::refusal::LoadRefusal;
+use pairs::{PairFile, PairTable};
 use plan::Plan;
 use rules::Rule;
 
 // The table of a file's pairs.
-fn fill(header: &PairHeader, file: &[u8]) -> PairTable
-    requires { (HeaderOf file.now header.now) × (RowsFit file.now (count_in file.now)) }
-    ensures { kept_pairs result ≡ pairs_in file.now }
+fn table_of(file: &PairFile<'_>) -> PairTable
+    requires { RowsFit file.now.bytes.now (count_in file.now.bytes.now) }
+    ensures { kept_pairs result ≡ pairs_in file.now.bytes.now }
 {
     let mut pairs = PairTable::empty();
-    for i in 0..header.count() {
-        let (s, t) = header.row(file, i);
+    for i in 0..file.count() {
+        let (s, t) = file.row(i);
         pairs.put(s, t);
     }
     pairs
 }
 
 impl<A: Plan, B: Plan, R: Rule> Comparison<A, B, R> {
-    // The lowest row of a file whose pair is refused.
-    fn row_refusal(&self, header: &PairHeader, file: &[u8]) -> Option<(usize, PairRefusal)>
-        requires { HeaderOf file.now header.now }
-        ensures { MatchOption result (RowsAllowed (setting_of A.meaning B.meaning R.says self.now) file.now (count_in file.now)) (LowestRefusedRow (setting_of A.meaning B.meaning R.says self.now) file.now) }
+    // May the pairs of all rows stand? If not, the lowest row whose pair is refused.
+    fn check_rows(&self, file: &PairFile<'_>) -> Result<(), LoadRefusal>
+        ensures { MatchResult result (λ _. RowsAllowed (setting_of A.meaning B.meaning R.says self.now) file.now.bytes.now (count_in file.now.bytes.now)) (RefusedRow (setting_of A.meaning B.meaning R.says self.now) file.now.bytes.now) }
     {
-        for i in 0..header.count() {
-            let (s, t) = header.row(file, i);
-            if let Some(refusal) = self.pair_refusal(s, t) {
-                return Some((i, refusal));
-            }
+        for i in 0..file.count() {
+            let (s, t) = file.row(i);
+            self.check_pair(s, t)
+                .map_err(|refusal| LoadRefusal::BadRow(i, refusal))?;
         }
-        None
-    }
-
-    // Lets just these pairs stand.
-    fn replace(&mut self, pairs: PairTable)
-        ensures pairs { standing self.new ≡ kept_pairs pairs }
-        ensures same { SameSetting self.old self.new }
-    {
-        self.pairs = pairs;
+        Ok(())
     }
 
     // Replaces the standing pairs by those of a pair file, all or none. Says how many there are.
-    pub fn load(&mut self, file: &[u8]) -> Result<usize, LoadRefusal>
+    pub fn load(&mut self, bytes: &[u8]) -> Result<usize, LoadRefusal>
         requires { Consistent (setting_of A.meaning B.meaning R.says self.old) (standing self.old) }
-        ensures answer { load_numbers result ≡ load_answer (setting_of A.meaning B.meaning R.says self.old) file.now }
-        ensures pairs { standing self.new ≡ after_load (setting_of A.meaning B.meaning R.says self.old) (standing self.old) file.now }
+        ensures answer { load_numbers result ≡ load_answer (setting_of A.meaning B.meaning R.says self.old) bytes.now }
+        ensures pairs { standing self.new ≡ after_load (setting_of A.meaning B.meaning R.says self.old) (standing self.old) bytes.now }
         ensures same { SameSetting self.old self.new }
         ensures consistent { Consistent (setting_of A.meaning B.meaning R.says self.new) (standing self.new) }
     {
-        let header = PairHeader::read(file)?;
-        if let Some((row, refusal)) = self.row_refusal(&header, file) {
-            return Err(LoadRefusal::BadRow(row, refusal));
-        }
-        self.replace(fill(&header, file));
-        Ok(header.count())
+        let file = PairFile::open(bytes)?;
+        self.check_rows(&file)?;
+        self.pairs = table_of(&file);
+        Ok(file.count())
     }
 }

@@ -1,17 +1,10 @@
 // Why a call on a comparison is refused.
 ghost use Rattle.std.specs.Prelude.{◌≡◌};
-ghost use Rattle.comparison.specs.Calls.{side_number, pair_numbers, load_refusal_numbers};
+ghost use Rattle.comparison.specs.Calls.{pair_numbers, load_refusal_numbers};
 ghost use Rattle.comparison.specs.declared.refusal.LoadRefusal.TheVariants.{BadFile};
 
 use layout::FileRefusal;
-use plan::Answer;
-
-// Which of the two plans.
-#[derive(Clone, Copy, PartialEq, Eq, Debug)]
-pub enum Side {
-    First,
-    Second,
-}
+use plan::{Answer, Outcome, Side};
 
 // Why a pair is refused.
 #[derive(Clone, Copy, PartialEq, Eq, Debug)]
@@ -23,7 +16,7 @@ pub enum PairRefusal {
 }
 
 // Why a pair file is refused.
-#[derive(Clone, Copy)]
+#[derive(Clone, Copy, PartialEq, Eq, Debug)]
 pub enum LoadRefusal {
     // The file itself.
     BadFile(FileRefusal),
@@ -31,39 +24,34 @@ pub enum LoadRefusal {
     BadRow(usize, PairRefusal),
 }
 
-impl Side {
-    // 1 or 2.
-    pub fn number(self) -> usize
-        ensures { result ≡ side_number self }
+impl PairRefusal {
+    // The five numbers of this refusal where the pair is this row of a pair file, which p tells.
+    pub fn answer_at(self, row: usize) -> Answer
+        ensures { result ≡ pair_numbers row self }
     {
         match self {
-            Side::First => 1,
-            Side::Second => 2,
+            PairRefusal::NoState(side) => Answer::refusal(13, side.number(), row, 0),
+            PairRefusal::Unmarked(side) => Answer::refusal(14, side.number(), row, 0),
         }
     }
 }
 
-impl PairRefusal {
-    // The five numbers of this refusal; p is the row of a pair file, or 0.
-    pub fn answer(self, p: usize) -> Answer
-        ensures { result ≡ pair_numbers p self }
-    {
-        let (number, side) = match self {
-            PairRefusal::NoState(side) => (13, side),
-            PairRefusal::Unmarked(side) => (14, side),
-        };
-        Answer::refusal(number, side.number(), p, 0)
+// Where the pair is no row of a file, p is 0.
+impl Outcome for PairRefusal {
+    ghost numbers = { pair_numbers 0 };
+
+    fn answer(&self) -> Answer {
+        self.answer_at(0)
     }
 }
 
-impl LoadRefusal {
-    // The five numbers of this refusal.
-    pub fn answer(self) -> Answer
-        ensures { result ≡ load_refusal_numbers self }
-    {
+impl Outcome for LoadRefusal {
+    ghost numbers = { load_refusal_numbers };
+
+    fn answer(&self) -> Answer {
         match self {
             LoadRefusal::BadFile(refusal) => refusal.answer(),
-            LoadRefusal::BadRow(row, refusal) => refusal.answer(row),
+            LoadRefusal::BadRow(row, refusal) => refusal.answer_at(*row),
         }
     }
 }

@@ -1,11 +1,9 @@
-use Rattle.std.proofs.Common.{sym, refl, subst}
-use Rattle.pairs.specs.Pairs.{no_pairs}
-use Rattle.comparison.specs.Settings.{Setting, OnlyMarked}
+use Rattle.comparison.specs.Settings.{Setting}
 use Rattle.comparison.proofs.Changes.{marked_none}
 use Rattle.comparison.proofs.Comparison.open.Goals as goal
 
-pub returns : goal.returns
-returns g c =
+pub returns-clause-consistent : goal.returns-clause-consistent
+returns-clause-consistent g c =
     let setting : Setting = record {
       first = g.A.Plan.meaning c.args.first.plan;
       second = g.B.Plan.meaning c.args.second.plan;
@@ -14,11 +12,7 @@ returns g c =
       says = g.R.Rule.says c.args.rule;
     } in
     record {
-      parts = (refl, refl, refl);
-      none = c.nothing_stands.ensures;
-      consistent = record {
-        first_found = c.requires.0;
-        second_found = c.requires.1;
-        only_marked = subst (OnlyMarked setting) (sym c.nothing_stands.ensures) (marked_none setting no_pairs);
-      };
+      first_found = c.requires.first;
+      second_found = c.requires.second;
+      only_marked = marked_none setting _ c.empty-pairs.ensures;
     }
