@@ -4,7 +4,7 @@ use Rattle.plan.specs.declared.answer.Answer.{Answer}
 use Rattle.plan.specs.Model.{Model}
 use Rattle.pairs.specs.Pairs.{Pairs, no_pairs}
 use Rattle.comparison.specs.declared.calls.Call.{Call}
-use Rattle.comparison.specs.declared.calls.TooShort.{TooShort}
+use Rattle.plan.specs.declared.answer.TooShort.{TooShort}
 use Rattle.comparison.specs.Settings.{Setting}
 use Rattle.comparison.specs.Histories.{Ran, NotRun}
 use Rattle.commands.specs.declared.command.Command.{Command}

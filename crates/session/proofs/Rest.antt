@@ -1,13 +1,10 @@
 -- The lines behind the line D of a drawing that was opened.
-use Rattle.std.proofs.Common.{◌≡◌, ℕ, ◌+◌, ◌<◌, Bool, true, false, cond, eqb, List, [], ◌∷◌, ◌++◌, length, take, set, MatchBool, sym, refl, ap, ◌∙◌, subst, append_assoc, arith}
+use Rattle.std.proofs.Common.{◌≡◌, ℕ, ◌+◌, ◌<◌, Bool, true, false, cond, List, [], ◌∷◌, ◌++◌, length, take, set, MatchBool, sym, refl, ap, ◌∙◌, subst, append_assoc, arith}
 use Rattle.std.proofs.lemmas.List.{take_more_set, length-set}
 use Rattle.std.proofs.lemmas.Bool.{and_from, and_left, and_right, both_ways}
 use Rattle.plan.specs.declared.answer.Answer.{Answer}
-use Rattle.plan.specs.Answers.{success}
 use Rattle.plan.specs.Model.{Model}
 use Rattle.table.specs.Layout.{table_answer, table_plan}
-use Rattle.join.specs.Joining.{joined}
-use Rattle.join.specs.Answers.{join_answer}
 use Rattle.commands.specs.declared.command.Command.{Command}
 use Rattle.session.specs.declared.line.Line.{Line}
 use Rattle.session.specs.Session.{line, succeeds, gauge_answer, second_plan, Answered, command_lines}
@@ -68,14 +65,3 @@ module _ (m : Model) (table gauge file : List ℕ) (commands : List Command) (li
       ∙ append_assoc (take 1 lines) (table_lines table gauge) (command_lines commands answers) in
       open_when (tables_open table gauge) (AllPrinted m table gauge file commands (take 1 lines) (take (3 + length commands) after)) (take (3 + length commands) after ≡ take 1 lines ++ table_lines table gauge) open_tables
       (answers, subst (λ x. Answered m x file commands answers) second_is answered, all)
-
--- there is no gauge
-pub alone_answer : (m : Model) (gauge : List ℕ) (last : Answer) → eqb (length gauge) 0 ≡ true → last ≡ success 0 0 → last ≡ gauge_answer m gauge
-alone_answer m gauge last none is =
-    is ∙ sym (ap (λ v. cond v (success 0 0) (cond (eqb (table_answer gauge).number 0) (join_answer m (table_plan gauge)) (table_answer gauge))) none)
-
-pub alone_plan : (table gauge : List ℕ) → eqb (length gauge) 0 ≡ true → table_plan table ≡ second_plan table gauge
-alone_plan table gauge none = sym (ap (λ v. cond v (table_plan table) (joined (table_plan table) (table_plan gauge))) none)
-
-pub both_plan : (table gauge : List ℕ) → eqb (length gauge) 0 ≡ false → joined (table_plan table) (table_plan gauge) ≡ second_plan table gauge
-both_plan table gauge some = sym (ap (λ v. cond v (table_plan table) (joined (table_plan table) (table_plan gauge))) some)

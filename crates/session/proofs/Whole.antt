@@ -3,17 +3,16 @@ use Rattle.std.proofs.Common.{◌≡◌, ℕ, suc, ◌+◌, ◌<◌, ◌≤◌, 
 use Rattle.std.proofs.lemmas.List.{take_more_set, length-map}
 use Rattle.plan.specs.declared.answer.Answer.{Answer}
 use Rattle.plan.specs.Model.{Model}
-use Rattle.layout.specs.Refusals.{refusal_numbers}
-use Rattle.layout.specs.declared.refusal.FileRefusal.{FileRefusal}
-use Rattle.layout.specs.declared.refusal.FileRefusal.TheVariants.{Length, Sign, Counts, Start, Parts, Row, Step}
 use Rattle.drawing.specs.Layout.{drawing_answer, drawing_plan}
 use Rattle.commands.specs.declared.command.Command.{Command}
 use Rattle.commands.specs.Lines.{lines_of, in_front}
 use Rattle.commands.specs.Commands.{command_of, commands_of}
 use Rattle.session.specs.declared.line.Line.{Line}
+use Rattle.session.specs.declared.room.Room.{Room}
+use Rattle.session.specs.Lent.{has_room_in}
 use Rattle.session.specs.Session.{line, succeeds, opens, opening_lines, second_plan, Answered, command_lines, Prints}
-use Rattle.session.specs.Running.{table_lines, tables_open, AllPrinted, RestPrinted, has_room}
-use Rattle.std.proofs.lemmas.Bool.{and_from, le-leb}
+use Rattle.session.specs.Running.{table_lines, tables_open, AllPrinted, RestPrinted}
+use Rattle.std.proofs.lemmas.Bool.{and_parts, leb-true}
 use Rattle.session.proofs.Rest.{shut_when}
 
 -- there are no more lines than bytes
@@ -31,16 +30,6 @@ lines_few (c ∷ rest) = ended_few (eqb c 10) c (lines_of rest) (length rest) (l
 
 pub commands_few : (input : List ℕ) → length (commands_of input) ≤ length input
 commands_few input = omega (arith, length-map (lines_of input) command_of, lines_few input)
-
--- a refusal is no success
-pub refused_fails : (refused : FileRefusal) → succeeds (refusal_numbers refused) ≡ false
-refused_fails Length = refl
-refused_fails Sign = refl
-refused_fails Counts = refl
-refused_fails Start = refl
-refused_fails Parts = refl
-refused_fails (Row i) = refl
-refused_fails (Step i) = refl
 
 when_like : (v w : Bool) (P Q P' Q' : Type 0) → w ≡ v → (P → P') → (Q → Q') → MatchBool v P Q → MatchBool w P' Q'
 when_like true w P Q P' Q' is f g h = subst (λ x. MatchBool x P' Q') (sym is) (f h)
@@ -96,7 +85,11 @@ module _ (drawing table gauge file input : List ℕ) (lines : List Line) (room :
       (λ h. h ∙ ap (λ xs. xs ++ table_lines table gauge) one_line ∙ opening)
       rest
 
--- there is room
-pub room_there : (n commands calls answers lines : ℕ) → n ≤ commands → n ≤ calls → n ≤ answers → n + 3 ≤ lines → has_room n commands calls answers lines ≡ true
-room_there n commands calls answers lines a b c d =
-    and_from _ _ (and_from _ _ (and_from _ _ (le-leb n commands a) (le-leb n calls b)) (le-leb n answers c)) (le-leb (n + 3) lines d)
+-- there is room: each slice is long enough
+pub room_parts : (input calls : ℕ) (room : Room) → has_room_in input calls room ≡ true
+    → (input ≤ length room.commands.now) × (input ≤ calls) × (input ≤ length room.answers.now) × (input + 3 ≤ length room.lines.now)
+room_parts input calls room e =
+    let all = and_parts _ _ e in
+    let three = and_parts _ _ all.0 in
+    let two = and_parts _ _ three.0 in
+    (leb-true input _ two.0, leb-true input calls two.1, leb-true input _ three.1, leb-true (input + 3) _ all.1)

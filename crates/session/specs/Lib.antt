@@ -1,3 +1,4 @@
+pub mod Lent
 pub mod Opening
 pub mod Running
 pub mod Session

@@ -5,6 +5,7 @@ use Rattle.plan.specs.Model.{Model}
 use Rattle.table.specs.Layout.{table_answer, table_plan}
 use Rattle.commands.specs.declared.command.Command.{Command}
 use Rattle.session.specs.declared.line.Line.{Line}
+use Rattle.session.specs.declared.room.Files.{Files}
 use Rattle.session.specs.Session.{line, succeeds, gauge_answer, second_plan, Answered, command_lines, Prints}
 
 -- the opening lines behind the line D of a drawing that was opened
@@ -30,15 +31,16 @@ RestPrinted drawing table gauge file commands before lines =
 abbrev pub has_room : ℕ → ℕ → ℕ → ℕ → ℕ → Bool
 has_room input commands calls answers lines = nat_le input commands && nat_le input calls && nat_le input answers && nat_le (input + 3) lines
 
--- there is room, and the first n lines are what the program prints
-pub record Printed (drawing table gauge file input : List ℕ) (room : Bool) (lines : List Line) (n : ℕ) : Type 0 where
+-- there was room, and the first n lines are what the program prints
+pub record Printed (files : Files) (input : List ℕ) (room : Bool) (lines : List Line) (n : ℕ) : Type 0 where
   pub enough : room ≡ true
   pub within : n ≤ length lines
-  pub prints : Prints drawing table gauge file input (take n lines)
+  pub prints : Prints files.drawing.now files.table.now files.gauge.now files.pairs.now input (take n lines)
 
--- there is no room, and nothing was written into the slices of commands, answers and lines
-pub record NoRoom (room : Bool) (commands commands' : List Command) (answers answers' : List Answer) (lines lines' : List Line) : Type 0 where
+-- there is no room, which is told with the places that are needed, and nothing was written into the slices of commands, answers and lines
+pub record NoRoom (input : List ℕ) (room : Bool) (commands commands' : List Command) (answers answers' : List Answer) (lines lines' : List Line) (needed : ℕ) : Type 0 where
   pub too_short : room ≡ false
+  pub tells : needed ≡ length input
   pub commands_kept : commands' ≡ commands
   pub answers_kept : answers' ≡ answers
   pub lines_kept : lines' ≡ lines

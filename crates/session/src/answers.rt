@@ -3,10 +3,14 @@ ghost use Rattle.std.specs.Prelude.{◌≡◌, ◌+◌, ◌≤◌, ◌++◌, len
 ghost use Rattle.comparison.specs.Histories.{no_answer};
 ghost use Rattle.commands.specs.declared.command.Command.TheVariants.{Unknown};
 ghost use Rattle.session.specs.Session.{Makes, MakeCalls, Answered, command_lines, line_of, is_call};
+ghost use Rattle.drawing.specs.contracts.drawing.ask.DrawingPlan.TheImpl.{ghosts};
+ghost use Rattle.session.specs.Opening.{second_meaning};
 
 use crate::line::Line;
+use crate::second::Second;
 use commands::Command;
 use comparison::{Call, Comparison};
+use drawing::Drawing;
 use plan::{Answer, Plan};
 use rules::Exact;
 use vet::Vetted;
@@ -40,7 +44,7 @@ fn make_calls<'a>(commands: &[Command], file: &'a [u8], calls: &mut [Call<'a>]) 
 }
 
 // Runs the commands on a new comparison of the two plans, under Exact: one call with the whole list.
-pub(crate) fn answer_commands<'a, A: Plan + Drop, B: Plan + Drop>(
+fn answer_commands<'a, A: Plan + Drop, B: Plan + Drop>(
     first: A,
     second: B,
     file: &'a [u8],
@@ -48,56 +52,59 @@ pub(crate) fn answer_commands<'a, A: Plan + Drop, B: Plan + Drop>(
     calls: &mut [Call<'a>],
     answers: &mut [Answer],
 )
-    requires { (length commands.now ≤ length calls.old) × (length commands.now ≤ length answers.old) }
+    requires calls { length commands.now ≤ length calls.old }
+    requires answers { length commands.now ≤ length answers.old }
     ensures { Answered (A.meaning first) (B.meaning second) file.now commands.now answers.new }
 {
     let mut comparison = Comparison::open(Vetted::vet(first), Vetted::vet(second), Exact);
     let n = make_calls(commands, file, calls);
-    let _ = comparison.run(&calls[0..n], answers);
+    let _ = comparison.run(&calls[..n], answers);
+}
+
+// The same for this drawing and a second plan of either kind.
+pub(crate) fn answer_beside<'a>(
+    drawing: Drawing,
+    second: Second,
+    file: &'a [u8],
+    commands: &[Command],
+    calls: &mut [Call<'a>],
+    answers: &mut [Answer],
+)
+    requires calls { length commands.now ≤ length calls.old }
+    requires answers { length commands.now ≤ length answers.old }
+    ensures { Answered (ghosts.meaning drawing) (second_meaning second) file.now commands.now answers.new }
+{
+    match second {
+        Second::Alone(table) => answer_commands(drawing, table, file, commands, calls, answers),
+        Second::Both(both) => answer_commands(drawing, both, file, commands, calls, answers),
+    }
 }
 
 // The answer at this place.
 fn answer_at(answers: &[Answer], k: usize) -> Answer
     ensures { result ≡ slice_index_or answers.now k no_answer }
 {
-    match answers.get(k) {
-        Some(answer) => *answer,
-        None => Answer::success(0, 0),
-    }
+    answers.get(k).copied().unwrap_or(Answer::success(0, 0))
 }
 
 // Does the command make a call?
 fn makes_call(command: Command) -> bool
     ensures { result ≡ is_call command }
 {
-    match command {
-        Command::Unknown => false,
-        _ => true,
-    }
+    command != Command::Unknown
 }
 
 // The line of a command, with this answer to its call.
 fn command_line(command: Command, answer: Answer) -> Line
     ensures { result ≡ line_of command answer }
 {
-    match command {
-        Command::Add(_, _) => Line {
-            letter: 'a',
-            answer,
-        },
-        Command::Strike(_, _) => Line {
-            letter: 's',
-            answer,
-        },
-        Command::Load => Line {
-            letter: 'p',
-            answer,
-        },
-        Command::Unknown => Line {
-            letter: '?',
-            answer: Answer::refusal(23, 0, 0, 0),
-        },
-    }
+    let (letter, answer) = match command {
+        Command::Add(_, _) => ('a', answer),
+        Command::Strike(_, _) => ('s', answer),
+        Command::Load => ('p', answer),
+        Command::Unknown => ('?', Answer::refusal(23, 0, 0, 0)),
+    };
+    Line { letter, answer }
 }
 
 // Writes a line for each command, from this place on.

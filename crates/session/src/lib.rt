@@ -3,8 +3,10 @@
 
 mod answers;
 mod line;
+mod room;
 mod run;
 mod second;
 
 pub use line::Line;
+pub use room::{Files, Room};
 pub use run::session;

@@ -1,133 +1,85 @@
 // A session: from the bytes that are read to the lines that are printed.
-ghost use Rattle.std.specs.Prelude.{◌≡◌, ◌+◌, ◌≤◌, length, take, MatchOption};
+ghost use Rattle.std.specs.Prelude.{◌≡◌, ◌+◌, ◌≤◌, length, take, MatchResult};
 ghost use Rattle.drawing.specs.contracts.drawing.ask.DrawingPlan.TheImpl.{ghosts};
-ghost use Rattle.session.specs.Running.{Printed, NoRoom, RestPrinted, has_room};
+ghost use Rattle.session.specs.Running.{Printed, NoRoom, RestPrinted};
+ghost use Rattle.session.specs.Lent.{has_room_in};
 
-use crate::answers::{answer_commands, write_lines};
+use crate::answers::{answer_beside, write_lines};
 use crate::line::Line;
-use crate::second::{Second, open_second};
+use crate::room::{Files, OPENING_LINES, Room};
+use crate::second::{gauge_answer, open_second};
 use commands::{Command, read_commands};
 use comparison::Call;
 use drawing::Drawing;
-use layout::opening_answer;
-use plan::Answer;
+use plan::{Answer, TooShort, opening_answer};
+use table::Table;
 
 // The lines L and G, and those of the commands, behind the line D of this drawing. Gives how many lines there are in all.
 fn finish<'a>(
     drawing: Drawing,
-    table: &[u8],
-    gauge: &[u8],
-    pairs: &'a [u8],
+    files: &Files<'a>,
     commands: &[Command],
     calls: &mut [Call<'a>],
     answers: &mut [Answer],
     lines: &mut [Line],
 ) -> usize
-    requires { (length commands.now ≤ length calls.old) × ((length commands.now ≤ length answers.old) × (3 + length commands.now ≤ length lines.old)) }
+    requires calls { length commands.now ≤ length calls.old }
+    requires answers { length commands.now ≤ length answers.old }
+    requires lines { 3 + length commands.now ≤ length lines.old }
     ensures within { result ≤ 3 + length commands.now }
-    ensures rest { RestPrinted (ghosts.meaning drawing) table.now gauge.now pairs.now commands.now (take 1 lines.old) (take result lines.new) }
+    ensures rest { RestPrinted (ghosts.meaning drawing) files.now.table.now files.now.gauge.now files.now.pairs.now commands.now (take 1 lines.old) (take result lines.new) }
 {
-    match open_second(table, gauge) {
-        Second::TableRefused(answer) => {
-            lines[1] = Line {
-                letter: 'L',
-                answer,
-            };
-            2
-        }
-        Second::GaugeRefused(answer, last) => {
-            lines[1] = Line {
-                letter: 'L',
-                answer,
-            };
-            lines[2] = Line {
-                letter: 'G',
-                answer: last,
-            };
-            3
-        }
-        Second::Alone(plan, answer) => {
-            lines[1] = Line {
-                letter: 'L',
-                answer,
-            };
-            lines[2] = Line {
-                letter: 'G',
-                answer: Answer::success(0, 0),
-            };
-            answer_commands(drawing, plan, pairs, commands, calls, answers);
-            write_lines(commands, answers, lines, 3);
-            3 + commands.len()
-        }
-        Second::Both(plan, answer, last) => {
-            lines[1] = Line {
-                letter: 'L',
-                answer,
-            };
-            lines[2] = Line {
-                letter: 'G',
-                answer: last,
-            };
-            answer_commands(drawing, plan, pairs, commands, calls, answers);
-            write_lines(commands, answers, lines, 3);
-            3 + commands.len()
-        }
-    }
-}
-
-// The first so many commands.
-fn first_commands(commands: &[Command], count: usize) -> &[Command]
-    ensures { result.now ≡ take count commands.now }
-{
-    if count < commands.len() {
-        &commands[0..count]
-    } else {
-        commands
-    }
+    let opening = Table::open(files.table);
+    lines[1] = Line {
+        letter: 'L',
+        answer: opening_answer(&opening),
+    };
+    let Ok(table) = opening else {
+        return 2;
+    };
+    let second = open_second(table, files.gauge);
+    lines[2] = Line {
+        letter: 'G',
+        answer: gauge_answer(&second),
+    };
+    let Ok(second) = second else {
+        return OPENING_LINES;
+    };
+    answer_beside(drawing, second, files.pairs, commands, calls, answers);
+    write_lines(commands, answers, lines, OPENING_LINES);
+    OPENING_LINES + commands.len()
 }
 
 // A session, from the bytes that are read to the lines that are printed: the answers to the folder's files, up to the first
-// refusal, and then a line for each line of the input. Gives how many lines there are. None, and nothing written, where a slice is
-// shorter than the input, or the lines are not three more.
+// refusal, and then a line for each line of the input. Gives how many lines there are. Refused, and nothing written, where a
+// slice is shorter than the input, or the lines are not three more; the refusal tells how long the input is. At the exit
+// `0`, `1.0` and `1.1.0` of the room are its fields in their order: lines, commands and answers.
 pub fn session<'a>(
-    drawing: &[u8],
-    table: &[u8],
-    gauge: &[u8],
-    pairs: &'a [u8],
+    files: &Files<'a>,
     input: &[u8],
-    commands: &mut [Command],
+    room: Room<'_>,
     calls: &mut [Call<'a>],
-    answers: &mut [Answer],
-    lines: &mut [Line],
-) -> Option<usize>
-    ensures { MatchOption result (NoRoom (has_room (length input.now) (length commands.old) (length calls.old) (length answers.old) (length lines.old)) commands.old commands.new answers.old answers.new lines.old lines.new) (Printed drawing.now table.now gauge.now pairs.now input.now (has_room (length input.now) (length commands.old) (length calls.old) (length answers.old) (length lines.old)) lines.new) }
+) -> Result<usize, TooShort>
+    ensures { MatchResult result (Printed files.now input.now (has_room_in (length input.now) (length calls.old) room.entry) room.exit.0.now) (λ e. NoRoom input.now (has_room_in (length input.now) (length calls.old) room.entry) room.entry.commands.now room.exit.1.0.now room.entry.answers.now room.exit.1.1.0.now room.entry.lines.now room.exit.0.now e.needed) }
 {
-    let most = input.len();
-    if commands.len() < most
-        || calls.len() < most
-        || answers.len() < most
-        || lines.len() < 3
-        || lines.len() - 3 < most
-    {
-        return None;
+    if !room.holds(input.len(), calls.len()) {
+        return Err(TooShort {
+            needed: input.len(),
+        });
     }
+    let Room {
+        lines,
+        commands,
+        answers,
+    } = room;
     let count = read_commands(input, commands)?;
-    let opening = Drawing::open(drawing);
+    let opening = Drawing::open(files.drawing);
     lines[0] = Line {
         letter: 'D',
         answer: opening_answer(&opening),
     };
-    match opening {
-        Ok(drawing) => Some(finish(
-            drawing,
-            table,
-            gauge,
-            pairs,
-            first_commands(commands, count),
-            calls,
-            answers,
-            lines,
-        )),
-        Err(_) => Some(1),
-    }
+    let Ok(drawing) = opening else {
+        return Ok(1);
+    };
+    Ok(finish(drawing, files, &commands[..count], calls, answers, lines))
 }

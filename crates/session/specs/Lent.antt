@@ -1,0 +1,8 @@
+-- The slices that are lent for a session.
+use Rattle.std.specs.Prelude.{ℕ, Bool, length}
+use Rattle.session.specs.declared.room.Room.{Room}
+use Rattle.session.specs.Running.{has_room}
+
+-- they have room for an input of this length, beside so many places for calls
+abbrev pub has_room_in : ℕ → ℕ → Room → Bool
+has_room_in input calls room = has_room input (length room.commands.now) calls (length room.answers.now) (length room.lines.now)
