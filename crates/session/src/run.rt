@@ -52,26 +52,23 @@ fn finish<'a>(
 
 // A session, from the bytes that are read to the lines that are printed: the answers to the folder's files, up to the first
 // refusal, and then a line for each line of the input. Gives how many lines there are. Refused, and nothing written, where a
-// slice is shorter than the input, or the lines are not three more; the refusal tells how long the input is. At the exit
-// `0`, `1.0` and `1.1.0` of the room are its fields in their order: lines, commands and answers.
+// slice is shorter than the input, or the lines are not three more; the refusal tells how long the input is.
 pub fn session<'a>(
     files: &Files<'a>,
     input: &[u8],
-    room: Room<'_>,
+    room: &mut Room<'_>,
     calls: &mut [Call<'a>],
 ) -> Result<usize, TooShort>
-    ensures { MatchResult result (Printed files.now input.now (has_room_in (length input.now) (length calls.old) room.entry) room.exit.0.now) (λ e. NoRoom input.now (has_room_in (length input.now) (length calls.old) room.entry) room.entry.commands.now room.exit.1.0.now room.entry.answers.now room.exit.1.1.0.now room.entry.lines.now room.exit.0.now e.needed) }
+    ensures { MatchResult result (Printed files.now input.now (has_room_in (length input.now) (length calls.old) room.old) room.new.lines.now) (λ e. NoRoom input.now (has_room_in (length input.now) (length calls.old) room.old) room.old.commands.now room.new.commands.now room.old.answers.now room.new.answers.now room.old.lines.now room.new.lines.now e.needed) }
 {
     if !room.holds(input.len(), calls.len()) {
         return Err(TooShort {
             needed: input.len(),
         });
     }
-    let Room {
-        lines,
-        commands,
-        answers,
-    } = room;
+    let lines = &mut *room.lines;
+    let commands = &mut *room.commands;
+    let answers = &mut *room.answers;
     let count = read_commands(input, commands)?;
     let opening = Drawing::open(files.drawing);
     lines[0] = Line {

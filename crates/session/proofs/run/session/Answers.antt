@@ -10,8 +10,8 @@ use Rattle.session.proofs.run.session.Goals as goal
 pub returns-in_default : goal.returns-in_default
 returns-in_default c =
     let files = c.args.files.now in
-    let lines = c.args.room.lines.now in
-    let room = room_parts (length c.args.input.now) (length c.args.calls.now) c.args.room (sym c.if-not-holds.ensures) in
+    let lines = c.args.room.now.lines.now in
+    let room = room_parts (length c.args.input.now) (length c.args.calls.now) c.args.room.now (sym c.if-not-holds.ensures) in
     let o = plan_refused ghosts.meaning c.open-opening.result c.opening_answer.result _ c.opening_answer.ensures c.open-opening.ensures.numbers c.in_default.field-0 c.in_default.is in
     record {
       enough = sym c.if-not-holds.ensures;
@@ -21,20 +21,20 @@ returns-in_default c =
 
 pub finish-requires : goal.finish-requires
 finish-requires c =
-    let room = room_parts (length c.args.input.now) (length c.args.calls.now) c.args.room (sym c.if-not-holds.ensures) in
+    let room = room_parts (length c.args.input.now) (length c.args.calls.now) c.args.room.now (sym c.if-not-holds.ensures) in
     let few = ap length c.in_ok-count.ensures.commands_read in
     let most = commands_few c.args.input.now in
     record {
       calls = omega (arith, few, most, room.1);
       answers = omega (arith, few, most, room.2);
-      lines = omega (arith, few, most, room.3, length-set c.args.room.lines.now 0 (line 68 c.opening_answer.result));
+      lines = omega (arith, few, most, room.3, length-set c.args.room.now.lines.now 0 (line 68 c.opening_answer.result));
     }
 
 pub returns : goal.returns
 returns c =
     let files = c.args.files.now in
-    let lines = c.args.room.lines.now in
-    let room = room_parts (length c.args.input.now) (length c.args.calls.now) c.args.room (sym c.if-not-holds.ensures) in
+    let lines = c.args.room.now.lines.now in
+    let room = room_parts (length c.args.input.now) (length c.args.calls.now) c.args.room.now (sym c.if-not-holds.ensures) in
     let is = c.in_ok-count.ensures.commands_read in
     let o = plan_opened ghosts.meaning c.open-opening.result c.opening_answer.result _ c.opening_answer.ensures c.open-opening.ensures.numbers c.in-Ok.drawing (drawing_plan files.drawing.now) c.in-Ok.is c.open-opening.ensures.plan in
     record {
