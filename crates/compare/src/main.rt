@@ -6,7 +6,7 @@ use commands::Command;
 use comparison::Call;
 use layout::LONGEST;
 use plan::Answer;
-use session::{Line, session};
+use session::{Files, Line, Room, session};
 use std::fs::File;
 use std::io;
 use std::io::{ErrorKind, Read};
@@ -55,17 +55,18 @@ fn run(rt: &HostRuntime) -> anyhow::Result<()> {
         answer: Answer::success(0, 0),
     };
     let mut lines = vec![in heap; blank; most.saturating_add(3)]?;
-    let printed = session(
-        &drawing,
-        &table,
-        &gauge,
-        &pairs,
-        &input,
-        &mut commands,
-        &mut calls,
-        &mut answers,
-        &mut lines,
-    );
+    let files = Files {
+        drawing: &drawing,
+        table: &table,
+        gauge: &gauge,
+        pairs: &pairs,
+    };
+    let room = Room {
+        lines: &mut lines,
+        commands: &mut commands,
+        answers: &mut answers,
+    };
+    let printed = session(&files, &input, room, &mut calls);
     for line in lines.iter().take(printed.unwrap_or(0)) {
         println!(rt; "{line}")?;
     }

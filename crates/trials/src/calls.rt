@@ -2,7 +2,7 @@
 use crate::make;
 use crate::make::TableRow;
 use comparison::{Call, Comparison};
-use plan::Answer;
+use plan::{Answer, Outcome};
 use rules::{CodePair, Exact, Fault, Listed, Rule};
 use std::io;
 use table::Table;
@@ -13,30 +13,39 @@ const NO_FAULT: u32 = 4_294_967_039;
 
 const FAULT: u32 = 4_294_967_040;
 
-fn ask<R: Rule>(
-    rt: &HostRuntime,
-    name: &str,
-    rule: &R,
-    channel: usize,
-    codes: (u32, u32),
-    expected: bool,
-) -> io::Result<()> {
-    let (first, second) = codes;
-    let came = rule.accepts(channel, first, second);
-    println!(rt;
-        "{name}, channel {channel}, {first} with {second}: expected {expected}, came {came}"
-    )
+// A question to a rule: the channel, the two codes, and the answer that is expected.
+type Question = (usize, u32, u32, bool);
+
+// Puts questions to a rule, and prints what was expected and what came.
+fn ask<R: Rule>(rt: &HostRuntime, name: &str, rule: &R, questions: &[Question]) -> io::Result<()> {
+    for (channel, first, second, expected) in questions {
+        let came = rule.accepts(*channel, *first, *second);
+        println!(rt;
+            "{name}, channel {channel}, {first} with {second}: expected {expected}, came {came}"
+        )?;
+    }
+    Ok(())
 }
 
 fn ask_rules(rt: &HostRuntime) -> io::Result<()> {
-    ask(rt, "exact", &Exact, 0, (0, 0), true)?;
-    ask(rt, "exact", &Exact, 3, (FAULT, FAULT), true)?;
-    ask(rt, "exact", &Exact, 0, (0, 1), false)?;
-    ask(rt, "fault", &Fault, 0, (5, 5), true)?;
-    ask(rt, "fault", &Fault, 0, (NO_FAULT, 5), false)?;
-    ask(rt, "fault", &Fault, 0, (FAULT, 5), true)?;
-    ask(rt, "fault", &Fault, 0, (5, FAULT), false)?;
-    ask(rt, "fault", &Fault, 0, (u32::MAX, 0), true)
+    ask(
+        rt,
+        "exact",
+        &Exact,
+        &[(0, 0, 0, true), (3, FAULT, FAULT, true), (0, 0, 1, false)],
+    )?;
+    ask(
+        rt,
+        "fault",
+        &Fault,
+        &[
+            (0, 5, 5, true),
+            (0, NO_FAULT, 5, false),
+            (0, FAULT, 5, true),
+            (0, 5, FAULT, false),
+            (0, u32::MAX, 0, true),
+        ],
+    )
 }
 
 fn ask_listed(rt: &HostRuntime) -> io::Result<()> {
@@ -52,12 +61,23 @@ fn ask_listed(rt: &HostRuntime) -> io::Result<()> {
             second: 3,
         },
     ];
-    let listed = Listed::new(&records);
-    ask(rt, "listed", &listed, 0, (1, 2), true)?;
-    ask(rt, "listed", &listed, 1, (3, 3), true)?;
-    ask(rt, "listed", &listed, 1, (1, 2), false)?;
-    ask(rt, "listed", &listed, 0, (2, 1), false)?;
-    ask(rt, "listed", &listed, 0, (0, 0), false)
+    ask(
+        rt,
+        "listed",
+        &Listed::new(&records),
+        &[
+            (0, 1, 2, true),
+            (1, 3, 3, true),
+            (1, 1, 2, false),
+            (0, 2, 1, false),
+            (0, 0, 0, false),
+        ],
+    )
+}
+
+// Opens the same table twice, which every file here has.
+fn open_twice(file: &[u8]) -> Option<(Table, Table)> {
+    Some((Table::open(file).ok()?, Table::open(file).ok()?))
 }
 
 // Runs two calls, with this many places for their answers, and prints what is in the places then.
@@ -81,13 +101,9 @@ fn run_list(rt: &HostRuntime, first: Table, second: Table, places: usize) -> io:
 fn run_lists(rt: &HostRuntime) -> io::Result<()> {
     let file = make::table_of(rt.alloc(), &[TableRow(1, 0, 0)])?;
     for places in 1..4 {
-        let Ok(first) = Table::open(&file) else {
-            return Ok(());
-        };
-        let Ok(second) = Table::open(&file) else {
-            return Ok(());
-        };
-        run_list(rt, first, second, places)?;
+        if let Some((first, second)) = open_twice(&file) {
+            run_list(rt, first, second, places)?;
+        }
     }
     Ok(())
 }

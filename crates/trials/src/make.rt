@@ -1,16 +1,19 @@
 // Files to try, made from their counts.
 use std::alloc::{AllocError, Global};
 
+// What a drawing begins with, and a table.
+const DRAWING_SIGN: [u8; 2] = [0x44, 0x50];
+
+const TABLE_SIGN: [u8; 2] = [0x50, 0x4B];
+
 // A word, the low byte first.
 fn push_word(bytes: &mut Vec<u8>, x: usize) -> Result<(), AllocError> {
-    bytes.push((x % 256) as u8)?;
-    bytes.push((x / 256 % 256) as u8)?;
-    Ok(())
+    bytes.extend_from_slice(&((x % 65_536) as u16).to_le_bytes())
 }
 
-fn push_zeros(bytes: &mut Vec<u8>, count: usize) -> Result<(), AllocError> {
-    for _ in 0..count {
-        bytes.push(0)?;
+fn push_words(bytes: &mut Vec<u8>, words: &[usize]) -> Result<(), AllocError> {
+    for word in words {
+        push_word(bytes, *word)?;
     }
     Ok(())
 }
@@ -19,7 +22,7 @@ fn push_state_rows(bytes: &mut Vec<u8>, states: usize, channels: usize) -> Resul
     for _ in 0..states {
         push_word(bytes, 1)?;
         for _ in 0..channels {
-            push_zeros(bytes, 4)?;
+            bytes.extend_from_slice(&[0; 4])?;
         }
     }
     Ok(())
@@ -34,19 +37,13 @@ pub(crate) fn drawing(
     channels: u16,
 ) -> Result<Vec<u8>, AllocError> {
     let (states, steps, channels) = (states as usize, steps as usize, channels as usize);
+    let step_rows = 14 + states * (2 + 4 * channels);
     let mut bytes = Vec::new(heap);
-    bytes.push(0x44)?;
-    bytes.push(0x50)?;
-    push_word(&mut bytes, states)?;
-    push_word(&mut bytes, steps)?;
-    push_word(&mut bytes, channels)?;
-    push_word(&mut bytes, 0)?;
-    push_word(&mut bytes, 14)?;
-    push_word(&mut bytes, 14 + states * (2 + 4 * channels))?;
+    bytes.extend_from_slice(&DRAWING_SIGN)?;
+    push_words(&mut bytes, &[states, steps, channels, 0, 14, step_rows])?;
     push_state_rows(&mut bytes, states, channels)?;
     for i in 0..steps {
-        push_word(&mut bytes, i / 8)?;
-        push_word(&mut bytes, i % 8)?;
+        push_words(&mut bytes, &[i / 8, i % 8])?;
     }
     Ok(bytes)
 }
@@ -54,25 +51,17 @@ pub(crate) fn drawing(
 // A table of so many states, all marked with code 0 and with steps to states 0 and 1.
 pub(crate) fn table(heap: Global, states: u16) -> Result<Vec<u8>, AllocError> {
     let mut bytes = Vec::new(heap);
-    bytes.push(0x50)?;
-    bytes.push(0x4B)?;
-    push_word(&mut bytes, states as usize)?;
-    push_word(&mut bytes, 0)?;
-    push_word(&mut bytes, 8)?;
+    bytes.extend_from_slice(&TABLE_SIGN)?;
+    push_words(&mut bytes, &[states as usize, 0, 8])?;
     for _ in 0..states {
-        bytes.push(7)?;
-        bytes.push(0)?;
-        bytes.push(1)?;
-        push_zeros(&mut bytes, 5)?;
+        bytes.extend_from_slice(&[7, 0, 1, 0, 0, 0, 0, 0])?;
     }
     Ok(bytes)
 }
 
 // The file cut off at this length, or filled up to it with zeros.
 pub(crate) fn resize(bytes: &mut Vec<u8>, length: usize) -> Result<(), AllocError> {
-    bytes.truncate(length);
-    let missing = length - bytes.len();
-    push_zeros(bytes, missing)
+    bytes.resize(length, 0)
 }
 
 // A row of a table: flags, first target, second target. The code of a marked state is 5 more than its number.
@@ -82,18 +71,12 @@ pub struct TableRow(pub u8, pub u8, pub u8);
 // A table of these rows.
 pub(crate) fn table_of(heap: Global, rows: &[TableRow]) -> Result<Vec<u8>, AllocError> {
     let mut bytes = Vec::new(heap);
-    bytes.push(0x50)?;
-    bytes.push(0x4B)?;
-    push_word(&mut bytes, rows.len())?;
-    push_word(&mut bytes, 0)?;
-    push_word(&mut bytes, 8)?;
-    for (i, row) in rows.iter().enumerate() {
-        bytes.push(row.0)?;
-        bytes.push(row.1)?;
-        bytes.push(row.2)?;
-        bytes.push(0)?;
-        push_word(&mut bytes, if row.0 % 2 == 1 { (i % 256) + 5 } else { 0 })?;
-        push_word(&mut bytes, 0)?;
+    bytes.extend_from_slice(&TABLE_SIGN)?;
+    push_words(&mut bytes, &[rows.len(), 0, 8])?;
+    for (i, TableRow(flags, first, second)) in rows.iter().enumerate() {
+        bytes.extend_from_slice(&[*flags, *first, *second, 0])?;
+        let code = if flags % 2 == 1 { (i % 256) + 5 } else { 0 };
+        push_words(&mut bytes, &[code, 0])?;
     }
     Ok(bytes)
 }

@@ -2,8 +2,7 @@
 use crate::make;
 use crate::make::resize;
 use drawing::Drawing;
-use layout::opening_answer;
-use plan::Answer;
+use plan::{Answer, opening_answer};
 use std::alloc::{AllocError, Global};
 use std::io;
 use table::Table;

@@ -2,9 +2,8 @@
 use crate::make;
 use crate::make::TableRow;
 use drawing::Drawing;
-use join::{Joined, joining_answer};
-use plan::{Answer, Plan};
-use std::alloc::{AllocError, Global};
+use join::Joined;
+use plan::{Answer, Outcome, Plan, opening_answer};
 use std::io;
 use table::Table;
 use vet::Vetted;
@@ -88,69 +87,86 @@ fn answer(number: usize, p: usize, q: usize) -> Answer {
     Answer::refusal(number, 0, p, q)
 }
 
-// Vets the plan of a table file, which every file here has.
-fn vet_table(bytes: &[u8]) -> Option<Answer> {
-    match Table::open(bytes) {
-        Ok(table) => Some(Vetted::vet(table).finding().answer()),
-        Err(_) => None,
-    }
+// Vets the plan of a table file, which every file here has, and prints what was expected, number and p, and what came.
+fn vet_table(
+    rt: &HostRuntime,
+    name: &str,
+    bytes: &[u8],
+    expected: (usize, usize),
+) -> io::Result<()> {
+    let Ok(table) = Table::open(bytes) else {
+        return Ok(());
+    };
+    let (number, p) = expected;
+    let came = Vetted::vet(table).finding().answer();
+    print(rt, "vet", name, answer(number, p, 0), came)
 }
 
 fn vet_cases(rt: &HostRuntime) -> io::Result<()> {
     for case in CASES.iter() {
         let bytes = make::table_of(rt.alloc(), case.rows)?;
-        let (number, p) = case.expected;
-        if let Some(came) = vet_table(&bytes) {
-            print(rt, "vet", case.name, answer(number, p, 0), came)?;
-        }
+        vet_table(rt, case.name, &bytes, case.expected)?;
     }
     let bytes = make::chain(rt.alloc())?;
-    if let Some(came) = vet_table(&bytes) {
-        print(
-            rt,
-            "vet",
-            "127 unmarked states from a marked one back to it",
-            answer(0, 0, 0),
-            came,
-        )?;
-    }
-    Ok(())
+    let name = "127 unmarked states from a marked one back to it";
+    vet_table(rt, name, &bytes, (0, 0))
 }
 
-// Joins two drawings of so many states and channels.
-fn join(heap: Global, first: (u16, u16), second: (u16, u16)) -> Result<Option<Answer>, AllocError> {
-    let first = make::drawing(heap, first.0, 0, first.1)?;
-    let second = make::drawing(heap, second.0, 0, second.1)?;
-    let Ok(first) = Drawing::open(&first) else {
-        return Ok(None);
-    };
-    let Ok(second) = Drawing::open(&second) else {
-        return Ok(None);
-    };
-    Ok(Some(joining_answer(&Joined::join(first, second))))
+// Two drawings of so many states and channels, and the answer that is expected of joining them: number, p and q.
+struct JoinCase {
+    name: &'static str,
+    first: (u16, u16),
+    second: (u16, u16),
+    expected: (usize, usize, usize),
+}
+
+const JOINS: [JoinCase; 5] = [
+    JoinCase {
+        name: "8 and 16 states",
+        first: (8, 1),
+        second: (16, 1),
+        expected: (0, 128, 2),
+    },
+    JoinCase {
+        name: "8 and 17 states",
+        first: (8, 1),
+        second: (17, 1),
+        expected: (8, 8, 17),
+    },
+    JoinCase {
+        name: "2 and 2 channels",
+        first: (8, 2),
+        second: (16, 2),
+        expected: (0, 128, 4),
+    },
+    JoinCase {
+        name: "3 and 2 channels",
+        first: (8, 3),
+        second: (16, 2),
+        expected: (9, 3, 2),
+    },
+    JoinCase {
+        name: "too many states and channels",
+        first: (8, 3),
+        second: (17, 2),
+        expected: (8, 8, 17),
+    },
+];
+
+// Joins the plans of two drawings, which every two files here have.
+fn join(first: &[u8], second: &[u8]) -> Option<Answer> {
+    let joined = Joined::join(Drawing::open(first).ok()?, Drawing::open(second).ok()?);
+    Some(opening_answer(&joined))
 }
 
 fn join_cases(rt: &HostRuntime) -> io::Result<()> {
-    if let Some(came) = join(rt.alloc(), (8, 1), (16, 1))? {
-        print(rt, "join", "8 and 16 states", answer(0, 128, 2), came)?;
-    }
-    if let Some(came) = join(rt.alloc(), (8, 1), (17, 1))? {
-        print(rt, "join", "8 and 17 states", answer(8, 8, 17), came)?;
-    }
-    if let Some(came) = join(rt.alloc(), (8, 2), (16, 2))? {
-        print(rt, "join", "2 and 2 channels", answer(0, 128, 4), came)?;
-    }
-    if let Some(came) = join(rt.alloc(), (8, 3), (16, 2))? {
-        print(rt, "join", "3 and 2 channels", answer(9, 3, 2), came)?;
-    }
-    if let Some(came) = join(rt.alloc(), (8, 3), (17, 2))? {
-        print(
-            rt,
-            "join",
-            "too many states and channels",
-            answer(8, 8, 17),
-            came,
-        )?;
+    for case in JOINS.iter() {
+        let first = make::drawing(rt.alloc(), case.first.0, 0, case.first.1)?;
+        let second = make::drawing(rt.alloc(), case.second.0, 0, case.second.1)?;
+        let (number, p, q) = case.expected;
+        if let Some(came) = join(&first, &second) {
+            print(rt, "join", case.name, answer(number, p, q), came)?;
+        }
     }
     Ok(())
 }
@@ -171,21 +187,20 @@ fn show<P: Plan>(rt: &HostRuntime, plan: &P) -> io::Result<()> {
     Ok(())
 }
 
+// The two tables of these files side by side, which every two files here can be.
+fn joined(first: &[u8], second: &[u8]) -> Option<Joined<Table, Table>> {
+    Joined::join(Table::open(first).ok()?, Table::open(second).ok()?).ok()
+}
+
 fn show_joined(rt: &HostRuntime) -> io::Result<()> {
     let first = make::table_of(rt.alloc(), &[TableRow(7, 0, 1), TableRow(2, 0, 0)])?;
     let second = make::table_of(
         rt.alloc(),
         &[TableRow(7, 1, 2), TableRow(2, 0, 0), TableRow(1, 0, 0)],
     )?;
-    let Ok(first) = Table::open(&first) else {
-        return Ok(());
-    };
-    let Ok(second) = Table::open(&second) else {
-        return Ok(());
-    };
-    match Joined::join(first, second) {
-        Ok(joined) => show(rt, &joined),
-        Err(_) => Ok(()),
+    match joined(&first, &second) {
+        Some(joined) => show(rt, &joined),
+        None => Ok(()),
     }
 }
 
