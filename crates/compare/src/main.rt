@@ -61,12 +61,12 @@ fn run(rt: &HostRuntime) -> anyhow::Result<()> {
         gauge: &gauge,
         pairs: &pairs,
     };
-    let room = Room {
+    let mut room = Room {
         lines: &mut lines,
         commands: &mut commands,
         answers: &mut answers,
     };
-    let printed = session(&files, &input, room, &mut calls);
+    let printed = session(&files, &input, &mut room, &mut calls);
     for line in lines.iter().take(printed.unwrap_or(0)) {
         println!(rt; "{line}")?;
     }
