@@ -1,13 +1,14 @@
 -- From commands to calls and lines, one command more at the end.
-use Rattle.std.proofs.Common.{◌≡◌, ℕ, ◌+◌, ◌<◌, Bool, true, false, cond, List, [], ◌∷◌, ◌++◌, length, get_or, take, drop, set, sym, refl, ap, ◌∙◌, subst, append_assoc, add-zero, zero-add, arith}
-use Rattle.std.proofs.lemmas.List.{get_or-drop, take_more, take_more_set}
+use Rattle.std.proofs.Common.{◌≡◌, ℕ, ◌+◌, ◌<◌, ◌≤◌, cond, List, [], ◌∷◌, ◌++◌, length, get_or, take, drop, set, sym, refl, ap, ◌∙◌, subst, append_assoc, add-one, arith}
+use Rattle.std.proofs.Math.Seq.{drop-cons}
+use Rattle.std.proofs.lemmas.List.{append-nil, drop_all, take_more, take_more_set}
 use Rattle.plan.specs.declared.answer.Answer.{Answer}
 use Rattle.comparison.specs.declared.calls.Call.{Call}
 use Rattle.comparison.specs.Histories.{no_answer}
 use Rattle.commands.specs.declared.command.Command.{Command}
 use Rattle.commands.specs.declared.command.Command.TheVariants.{Add, Strike, Load, Unknown}
 use Rattle.session.specs.declared.line.Line.{Line}
-use Rattle.session.specs.Session.{Makes, MakeCalls, line_of, is_call, calls_in, command_lines}
+use Rattle.session.specs.Session.{Makes, MakeCalls, line_of, is_call, command_lines}
 
 module _ (file : List ℕ) where
   one_call : (command : Command) (call : Call) → Makes file command call → MakeCalls file (command ∷ []) (call ∷ [])
@@ -55,46 +56,25 @@ module _ (file : List ℕ) where
       subst (λ cs. MakeCalls file cs (take n calls)) (sym (take_more commands i d low ∙ ap (λ x. take i commands ++ x ∷ []) unknown))
       (make_none (take i commands) (take n calls) made)
 
--- the answer that the next call takes
-next_answer : (v : Bool) (answers : List Answer) (k : ℕ) → get_or (cond v (drop 1 answers) answers) k no_answer ≡ get_or answers (cond v 1 0 + k) no_answer
-next_answer true answers k = get_or-drop 1 answers k no_answer
-next_answer false answers k = ap (λ j. get_or answers j no_answer) (sym (zero-add k))
-
--- one line more
-line_push : (commands : List Command) (command : Command) (answers : List Answer)
-    → command_lines (commands ++ command ∷ []) answers ≡ command_lines commands answers ++ line_of command (get_or answers (calls_in commands) no_answer) ∷ []
-line_push [] command answers = refl
-line_push (d ∷ commands) command answers =
-    ap (λ xs. line_of d (get_or answers 0 no_answer) ∷ xs)
-    (line_push commands command (cond (is_call d) (drop 1 answers) answers)
-    ∙ ap (λ x. command_lines commands (cond (is_call d) (drop 1 answers) answers) ++ line_of command x ∷ []) (next_answer (is_call d) answers (calls_in commands)))
-
-calls_push : (commands : List Command) (command : Command) → calls_in (commands ++ command ∷ []) ≡ calls_in commands + cond (is_call command) 1 0
-calls_push [] command = omega arith
-calls_push (d ∷ commands) command = omega (arith, calls_push commands command)
-
-calls_more : (commands : List Command) (i : ℕ) (d : Command) → i < length commands → calls_in (take (i + 1) commands) ≡ calls_in (take i commands) + cond (is_call (get_or commands i d)) 1 0
-calls_more commands i d low = ap calls_in (take_more commands i d low) ∙ calls_push (take i commands) (get_or commands i d)
-
--- one call more, and none more
-pub calls_counted : (commands : List Command) (i k : ℕ) (d : Command) → i < length commands → k ≡ calls_in (take i commands) → true ≡ is_call (get_or commands i d) → k + 1 ≡ calls_in (take (i + 1) commands)
-calls_counted commands i k d low count is =
-    ap (λ j. j + 1) count ∙ ap (λ v. calls_in (take i commands) + cond v 1 0) is ∙ sym (calls_more commands i d low)
-
-pub calls_kept : (commands : List Command) (i k : ℕ) (d : Command) → i < length commands → k ≡ calls_in (take i commands) → false ≡ is_call (get_or commands i d) → k ≡ calls_in (take (i + 1) commands)
-calls_kept commands i k d low count is =
-    count ∙ sym (add-zero (calls_in (take i commands))) ∙ ap (λ v. calls_in (take i commands) + cond v 1 0) is ∙ sym (calls_more commands i d low)
-
-pub lines_more : (commands : List Command) (answers : List Answer) (before lines : List Line) (at i k : ℕ) (d : Command) (new : Line) → i < length commands → at + i < length lines
-    → k ≡ calls_in (take i commands) → new ≡ line_of (get_or commands i d) (get_or answers k no_answer)
-    → take (at + i) lines ≡ take at before ++ command_lines (take i commands) answers
-    → take (at + (i + 1)) (set lines (at + i) new) ≡ take at before ++ command_lines (take (i + 1) commands) answers
-lines_more commands answers before lines at i k d new low place count is written =
+-- what stands with the lines that are still to come is the same after one line more, which takes the next answer if its command makes a call
+pub lines_more : (commands : List Command) (left left' : List Answer) (lines : List Line) (at i : ℕ) (d : Command) (new : Line) → i < length commands → at + i < length lines
+    → new ≡ line_of (get_or commands i d) (get_or left 0 no_answer) → left' ≡ cond (is_call (get_or commands i d)) (drop 1 left) left
+    → take (at + (i + 1)) (set lines (at + i) new) ++ command_lines (drop (i + 1) commands) left' ≡ take (at + i) lines ++ command_lines (drop i commands) left
+lines_more commands left left' lines at i d new low place is taken =
     let sum : at + (i + 1) ≡ at + i + 1 = omega arith in
-    ap (λ n. take n (set lines (at + i) new)) sum
-    ∙ take_more_set lines (at + i) new place
-    ∙ ap (λ xs. xs ++ new ∷ []) written
-    ∙ append_assoc (take at before) (command_lines (take i commands) answers) (new ∷ [])
-    ∙ ap (λ x. take at before ++ (command_lines (take i commands) answers ++ x ∷ [])) (is ∙ ap (λ j. line_of (get_or commands i d) (get_or answers j no_answer)) count)
-    ∙ ap (λ xs. take at before ++ xs) (sym (line_push (take i commands) (get_or commands i d) answers))
-    ∙ ap (λ cs. take at before ++ command_lines cs answers) (sym (take_more commands i d low))
+    let next : drop i commands ≡ get_or commands i d ∷ drop (i + 1) commands = drop-cons commands i d low ∙ ap (λ k. get_or commands i d ∷ drop k commands) (sym (add-one i)) in
+    ap (λ n. take n (set lines (at + i) new) ++ command_lines (drop (i + 1) commands) left') sum
+    ∙ ap (λ xs. xs ++ command_lines (drop (i + 1) commands) left') (take_more_set lines (at + i) new place)
+    ∙ append_assoc (take (at + i) lines) (new ∷ []) (command_lines (drop (i + 1) commands) left')
+    ∙ ap (λ x. take (at + i) lines ++ x ∷ command_lines (drop (i + 1) commands) left') is
+    ∙ ap (λ xs. take (at + i) lines ++ line_of (get_or commands i d) (get_or left 0 no_answer) ∷ command_lines (drop (i + 1) commands) xs) taken
+    ∙ ap (λ cs. take (at + i) lines ++ command_lines cs left) (sym next)
+
+-- no line is still to come
+pub lines_all : (commands : List Command) (left : List Answer) (lines : List Line) (at i : ℕ) → length commands ≤ i → i ≤ length commands
+    → take (at + length commands) lines ≡ take (at + i) lines ++ command_lines (drop i commands) left
+lines_all commands left lines at i all within =
+    let here : length commands ≡ i = omega (arith, all, within) in
+    ap (λ k. take (at + k) lines) here
+    ∙ sym (append-nil (take (at + i) lines))
+    ∙ ap (λ cs. take (at + i) lines ++ command_lines cs left) (sym (drop_all i commands all))
