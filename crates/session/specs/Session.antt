@@ -1,5 +1,5 @@
 -- What the program prints: a list of lines, from the bytes that it reads.
-use Rattle.std.specs.Prelude.{◌≡◌, ℕ, ◌+◌, Bool, true, false, cond, ◌&&◌, List, [], ◌∷◌, ◌++◌, length, drop, MatchBool, ◌==◌, slice_index_or}
+use Rattle.std.specs.Prelude.{◌≡◌, ℕ, Bool, true, false, cond, ◌&&◌, List, [], ◌∷◌, ◌++◌, length, drop, MatchBool, ◌==◌, slice_index_or}
 use Rattle.plan.specs.declared.answer.Answer.{Answer}
 use Rattle.plan.specs.Answers.{numbers, success}
 use Rattle.plan.specs.Model.{Model}
@@ -88,16 +88,12 @@ line_of (Strike s t) answer = line 115 answer
 line_of Load answer = line 112 answer
 line_of Unknown answer = unknown_line
 
--- does the command make a call, and how many of a list do
+-- does the command make a call
 abbrev pub is_call : Command → Bool
 is_call (Add s t) = true
 is_call (Strike s t) = true
 is_call Load = true
 is_call Unknown = false
-
-abbrev pub calls_in : List Command → ℕ
-calls_in [] = 0
-calls_in (command ∷ commands) = cond (is_call command) 1 0 + calls_in commands
 
 -- each call takes the next answer
 abbrev pub command_lines : List Command → List Answer → List Line

@@ -1,5 +1,6 @@
 // The commands of a session: from commands to calls, and from the calls' answers to lines.
-ghost use Rattle.std.specs.Prelude.{◌≡◌, ◌+◌, ◌≤◌, ◌++◌, length, take, MatchOption, slice_index_or};
+ghost use Rattle.std.specs.Prelude.{◌≡◌, ◌+◌, ◌≤◌, ◌++◌, length, take, drop, MatchOption, slice_index_or, if◌then◌else◌};
+ghost use Rattle.std.specs.Slice.Iter.{iter_rest};
 ghost use Rattle.comparison.specs.Histories.{no_answer};
 ghost use Rattle.commands.specs.declared.command.Command.TheVariants.{Unknown};
 ghost use Rattle.session.specs.Session.{Makes, MakeCalls, Answered, command_lines, line_of, is_call};
@@ -13,6 +14,7 @@ use comparison::{Call, Comparison};
 use drawing::Drawing;
 use plan::{Answer, Plan};
 use rules::Exact;
+use std::slice;
 use vet::Vetted;
 
 // The call that a command makes; none where it is no command.
@@ -33,6 +35,7 @@ fn make_calls<'a>(commands: &[Command], file: &'a [u8], calls: &mut [Call<'a>]) 
     ensures count { result ≤ length commands.now }
     ensures made { MakeCalls file.now commands.now (take result calls.new) }
 {
+    // The number of calls is handed back, so it is counted here; a `filter_map` in the loop's head would save no more than the `if let`.
     let mut n = 0;
     for command in commands {
         if let Some(call) = call_of(*command, file) {
@@ -80,30 +83,23 @@ pub(crate) fn answer_beside<'a>(
     }
 }
 
-// The answer at this place.
-fn answer_at(answers: &[Answer], k: usize) -> Answer
-    ensures { result ≡ slice_index_or answers.now k no_answer }
+// The line of a command, which takes the next answer if it makes a call.
+fn next_line(command: Command, answers: &mut slice::Iter<'_, Answer>) -> Line
+    ensures line { result ≡ line_of command (slice_index_or (iter_rest answers.old) 0 no_answer) }
+    ensures taken { iter_rest answers.new ≡ (if is_call command then drop 1 (iter_rest answers.old) else iter_rest answers.old) }
 {
-    answers.get(k).copied().unwrap_or(Answer::success(0, 0))
-}
-
-// Does the command make a call?
-fn makes_call(command: Command) -> bool
-    ensures { result ≡ is_call command }
-{
-    command != Command::Unknown
-}
-
-// The line of a command, with this answer to its call.
-fn command_line(command: Command, answer: Answer) -> Line
-    ensures { result ≡ line_of command answer }
-{
-    let (letter, answer) = match command {
-        Command::Add(_, _) => ('a', answer),
-        Command::Strike(_, _) => ('s', answer),
-        Command::Load => ('p', answer),
-        Command::Unknown => ('?', Answer::refusal(23, 0, 0, 0)),
+    let letter = match command {
+        Command::Add(_, _) => 'a',
+        Command::Strike(_, _) => 's',
+        Command::Load => 'p',
+        Command::Unknown => {
+            return Line {
+                letter: '?',
+                answer: Answer::refusal(23, 0, 0, 0),
+            };
+        }
     };
+    let answer = answers.next().copied().unwrap_or(Answer::success(0, 0));
     Line { letter, answer }
 }
 
@@ -112,11 +108,8 @@ pub(crate) fn write_lines(commands: &[Command], answers: &[Answer], lines: &mut 
     requires { at + length commands.now ≤ length lines.old }
     ensures { take (at + length commands.now) lines.new ≡ take at lines.old ++ command_lines commands.now answers.now }
 {
-    let mut k = 0;
+    let mut left = answers.iter();
     for (i, command) in commands.iter().enumerate() {
-        lines[at + i] = command_line(*command, answer_at(answers, k));
-        if makes_call(*command) {
-            k += 1;
-        }
+        lines[at + i] = next_line(*command, &mut left);
     }
 }

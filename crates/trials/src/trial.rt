@@ -17,12 +17,6 @@ pub enum Made {
 }
 
 #[derive(Clone, Copy)]
-pub enum Length {
-    Whole,
-    Exactly(usize),
-}
-
-#[derive(Clone, Copy)]
 pub struct Edit {
     pub at: usize,
     pub byte: u8,
@@ -31,7 +25,8 @@ pub struct Edit {
 pub struct Case {
     pub name: &'static str,
     pub made: Made,
-    pub length: Length,
+    // The length that the file is cut off at, or filled up to, if it is not left as it is made.
+    pub length: Option<usize>,
     pub edits: &'static [Edit],
     // Number, p and q.
     pub expected: (usize, usize, usize),
@@ -43,7 +38,7 @@ fn file(heap: Global, case: &Case) -> Result<Vec<u8>, AllocError> {
         Made::Drawing(states, steps, channels) => make::drawing(heap, states, steps, channels)?,
         Made::Table(states) => make::table(heap, states)?,
     };
-    if let Length::Exactly(length) = case.length {
+    if let Some(length) = case.length {
         resize(&mut bytes, length)?;
     }
     for edit in case.edits {

@@ -4,14 +4,8 @@ use Rattle.comparison.specs.Histories.{Does, no_call}
 use Rattle.comparison.proofs.Lists.{setting_stays, same_again, one_history, running_none, running_more, ran_all}
 use Rattle.comparison.proofs.Comparison.run.Goals as goal
 
-pub returns-then-answers-calls : goal.returns-then-answers-calls
-returns-then-answers-calls g c =
-    record {
-      ran = record { too_few = c.if-answers-calls.true; tells = refl; answers_kept = refl; pairs_kept = refl };
-      only = one_history _;
-      same = record { same_first = refl; same_second = refl; same_rule = refl };
-      consistent = c.requires;
-    }
+pub returns-then-answers-calls-clause-only : goal.returns-then-answers-calls-clause-only
+returns-then-answers-calls-clause-only g c = one_history _
 
 pub loop-i-init : goal.loop-i-init
 loop-i-init g c = (running_none _ _ _ _, record { same_first = refl; same_second = refl; same_rule = refl }, c.requires)
@@ -28,13 +22,11 @@ loop-i-preserved g c =
       c.call.ensures.consistent,
     )
 
-pub returns : goal.returns
-returns g c =
+pub returns-clause-ran : goal.returns-clause-ran
+returns-clause-ran g c =
     let start = c.args.self.now in
     let setting : Setting = setting_of g.A.Plan.meaning g.B.Plan.meaning g.R.Rule.says start in
-    record {
-      ran = ran_all setting (standing start) c.args.calls.now c.args.answers.now c.loop-i.answers (standing c.loop-i.self) c.loop-i.i (omega arith) c.if-answers-calls.false c.loop-i.invariant.0;
-      only = one_history setting;
-      same = c.loop-i.invariant.1;
-      consistent = c.loop-i.invariant.2;
-    }
+    ran_all setting (standing start) c.args.calls.now c.args.answers.now c.loop-i.answers (standing c.loop-i.self) c.loop-i.i (omega arith) c.if-answers-calls.false c.loop-i.invariant.0
+
+pub returns-clause-only : goal.returns-clause-only
+returns-clause-only g c = one_history _

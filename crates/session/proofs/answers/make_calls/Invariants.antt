@@ -1,7 +1,10 @@
 use Rattle.std.proofs.Common.{◌≤◌, take}
-use Rattle.session.specs.Session.{MakeCalls}
+use Rattle.session.proofs.Making.{MadeSoFar}
 use Rattle.session.proofs.answers.make_calls.Given as goal
 
 abbrev pub invariant-loop-command : goal.invariant-loop-command
 invariant-loop-command l =
-    (l.n ≤ l.command-index) × MakeCalls l.file (take l.command-index l.commands) (take l.n l.calls)
+    record {
+      few : l.n ≤ l.command-index;
+      made : MadeSoFar l.file l.commands l.command-index (take l.n l.calls);
+    }
