@@ -44,6 +44,7 @@ pub fn read_commands(input: &[u8], commands: &mut [Command]) -> Result<usize, To
             needed: input.len(),
         });
     }
+    // The number of lines is handed back, so it is counted here: after a `zip` with the places, a proof knows nothing of what was written.
     let mut count = 0;
     for line in input.split_inclusive(|byte| *byte == b'\n') {
         commands[count] = read_command(line.strip_suffix(b"\n").unwrap_or(line));

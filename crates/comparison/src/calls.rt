@@ -7,7 +7,7 @@ use crate::Comparison;
 use plan::{Answer, Outcome, Plan, TooShort};
 use rules::Rule;
 
-// One call. A file is lent.
+// One call. A file is lent. Calls are data and no closures, since histories speak of them.
 #[derive(Clone, Copy)]
 pub enum Call<'a> {
     Add(usize, usize),

@@ -17,6 +17,7 @@ fn table_of(file: &PairFile<'_>) -> PairTable
     requires { RowsFit file.now.bytes.now (count_in file.now.bytes.now) }
     ensures { kept_pairs result ≡ pairs_in file.now.bytes.now }
 {
+    // By row number: an iterator of a file's rows would be a type and a proof more for two loops.
     let mut pairs = PairTable::empty();
     for i in 0..file.count() {
         let (s, t) = file.row(i);

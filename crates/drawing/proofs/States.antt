@@ -20,32 +20,6 @@ replicated n s x =
     (λ (high : n ≤ s). get_or_past (replicate n x) s x (rw length-replicate high))
     (cases_lt s n)
 
--- codes of no channel
-pub codes_none : (b : List ℕ) (at : ℕ) → CodesRead b at 0 (replicate 4 0)
-codes_none b at = record {
-  four = refl;
-  each_code = λ k. replicated 4 k 0 ∙ sym (ap (λ t. cond t (code_at b at k) 0) (le-ltb k 0 (omega arith)));
-}
-
--- one channel more
-pub codes_more : (b : List ℕ) (at k : ℕ) (codes : List ℕ) (code : ℕ) → CodesRead b at k codes → k < 4 → code ≡ code_at b at k → CodesRead b at (k + 1) (set codes k code)
-codes_more b at k codes code read small is = record {
-  four = length-set codes k code ∙ read.four;
-  each_code = λ j.
-      ⊎_elim
-      (λ (here : j ≡ k).
-      let within : k < length codes = omega (arith, read.four) in
-      ap (λ i. get_or (set codes k code) i 0) here
-      ∙ get_or-set_same codes k code 0 within
-      ∙ is
-      ∙ ap (code_at b at) (sym here)
-      ∙ sym (ap (λ t. cond t (code_at b at j) 0) (lt-ltb j (k + 1) (omega arith))))
-      (λ (other : j ≢ k).
-      let alike : ltb j k ≡ ltb j (k + 1) = grind (arith, nat_tests) in
-      get_or-set_other codes k j code 0 other ∙ read.each_code j ∙ ap (λ t. cond t (code_at b at j) 0) alike)
-      (cases_eq j k);
-}
-
 -- all elements are 0: then each is, also behind the last one
 zeros : (xs : List ℕ) (k : ℕ) → list_all (λ x. eqb x 0) xs ≡ true → get_or xs k 0 ≡ 0
 zeros [] k all = refl

@@ -9,6 +9,7 @@ use plan::MOST_STATES;
 mod ask;
 mod open;
 
+// Arrays of fixed length, for the most that a drawing has, since by a rule of the project nothing allocates here.
 #[derive(Drop)]
 pub struct Drawing {
     states: usize,

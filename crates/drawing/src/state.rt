@@ -6,6 +6,7 @@ ghost use Rattle.drawing.specs.Opening.{CodesRead, StateRead};
 
 use layout::{long, word};
 use plan::MOST_CHANNELS;
+use std::array;
 
 #[derive(Clone, Copy)]
 pub struct State {
@@ -20,11 +21,11 @@ fn read_codes(bytes: &[u8], at: usize, channels: usize) -> [u32; MOST_CHANNELS]
     requires few { channels ≤ 4 }
     ensures { CodesRead bytes.now at channels result }
 {
-    let mut codes = [0; MOST_CHANNELS];
-    for k in 0..channels {
-        codes[k] = long(bytes, at + 2 + 4 * k);
-    }
-    codes
+    array::from_fn(|k| if k < channels {
+        long(bytes, at + 2 + 4 * k)
+    } else {
+        0
+    })
 }
 
 // Are all codes 0?

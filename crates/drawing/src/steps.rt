@@ -18,6 +18,7 @@ impl Span {
     const NONE: Span = Span { first: 0, count: 0 };
 }
 
+// Arrays of fixed length, for the most that a drawing has, since by a rule of the project nothing allocates here.
 #[derive(Drop)]
 pub struct StepTable {
     pub spans: [Span; MOST_STATES],

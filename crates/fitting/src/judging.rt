@@ -79,6 +79,7 @@ fn check_covered<A: Plan, B: Plan, R: Rule>(
     requires only_marked { OnlyMarked (A.meaning compared.now.first.now) (B.meaning compared.now.second.now) (kept_pairs pairs.now) }
     ensures { MatchResult result (λ _. AllCovered (A.meaning compared.now.first.now) (B.meaning compared.now.second.now) (kept_pairs pairs.now)) (λ m. NamesUncovered (A.meaning compared.now.first.now) (B.meaning compared.now.second.now) (kept_pairs pairs.now) (Err m)) }
 {
+    // Nested loops that are left by a label, a form that the users of this project ask for.
     'pairs: {
         for s in 0..compared.first.states() {
             for t in 0..compared.second.states() {
@@ -102,7 +103,9 @@ fn check_covered<A: Plan, B: Plan, R: Rule>(
     }
 }
 
-// Puts the questions to the pairs.
+// Puts the questions to the pairs. (That both plans have equally many channels is asked of private functions alone, here and where a
+// largest set is found. A type that holds it would wrap `Compared`, which is made without it too, and each function would reach its
+// plans through two structs.)
 fn judge_pairs<A: Plan, B: Plan, R: Rule>(
     compared: &Compared<'_, A, B, R>,
     pairs: &PairTable,

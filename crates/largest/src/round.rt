@@ -19,6 +19,7 @@ fn strike_row(next: &Closings, covered: &Closings, s: usize, pairs: &mut PairTab
     ensures sweeps { RowSwept (CoveredIn next.now covered.now) s 128 (kept_pairs pairs.old) (kept_pairs pairs.new) }
     ensures tells { Tells result (kept_pairs pairs.old) (kept_pairs pairs.new) }
 {
+    // In place, and not a new table for each round: that would have to be counted to tell whether anything was struck.
     let mut struck = false;
     for t in 0..MOST_STATES {
         if pairs.stands(s, t) && !is_covered(next, covered, s, t) {

@@ -8,7 +8,8 @@ use plan::MOST_STATES;
 // There are at most this many pairs of states.
 pub(crate) const MOST_PAIRS: usize = MOST_STATES * MOST_STATES;
 
-// Row by state of the first plan, column by state of the second; 1 where the pair stands.
+// Row by state of the first plan, column by state of the second; 1 where the pair stands. A byte for each pair in a plain struct, a form
+// that the users of this project ask for.
 #[derive(Drop)]
 pub struct PairTable {
     bytes: [u8; MOST_PAIRS],

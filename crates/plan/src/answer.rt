@@ -6,7 +6,8 @@ ghost use Rattle.plan.specs.Shown.{shown_answer};
 use std::fmt;
 
 // `number` is 0 for success, else it says which question was answered no. `side` is the plan at fault,
-// 1 or 2. What p, q and r tell depends on the number. Those that an answer does not name are 0.
+// 1 or 2. What p, q and r tell depends on the number. Those that an answer does not name are 0. By a rule of the project these are
+// numbers here, and in nothing else: they are what is printed. Refusals and findings are enums, which tell their numbers (`Outcome`).
 #[derive(Clone, Copy, PartialEq, Eq, Debug)]
 pub struct Answer {
     pub number: usize,

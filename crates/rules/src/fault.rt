@@ -6,6 +6,7 @@ use crate::Rule;
 // Codes from here upward are faults.
 const FIRST_FAULT: u32 = 4_294_967_040;
 
+// Beside `Exact`, and not one rule with a flag: each is a single expression.
 #[derive(Clone, Copy)]
 pub struct Fault;
 

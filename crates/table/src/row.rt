@@ -28,7 +28,8 @@ fn flag(flags: u8, bit: u32) -> bool
     (flags >> bit) % 2 == 1
 }
 
-// Is the row with these parts proper?
+// Is the row with these parts proper? (Five bytes and numbers that `read` has at hand and nothing else needs: a struct would be made to
+// be taken apart.)
 fn is_proper(flags: u8, first: u8, second: u8, fourth: u8, code: u32) -> bool
     ensures { result ≡ proper flags first second fourth code }
 {
@@ -60,8 +61,9 @@ impl Steps {
     {
         match self {
             Steps::Halt => true,
-            Steps::One(only) => (only as usize) < states,
-            Steps::Two(first, second) => ((first as usize) < states) & ((second as usize) < states),
+            Steps::One(only) => usize::from(only) < states,
+            Steps::Two(first, second) => (usize::from(first) < states)
+                & (usize::from(second) < states),
         }
     }
 }

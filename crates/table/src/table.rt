@@ -8,6 +8,7 @@ use plan::MOST_STATES;
 mod ask;
 mod open;
 
+// An array of fixed length, for the most that a table has, since by a rule of the project nothing allocates here.
 #[derive(Drop)]
 pub struct Table {
     states: usize,

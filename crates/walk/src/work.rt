@@ -7,7 +7,8 @@ use crate::has;
 use plan::{Plan, TooShort};
 
 // A walk on its way: the plan; the states that were reached; those that were ever put into the queue; and the queue, of which
-// the first `len` places are in use. The states at its first `done` places were given out to be expanded.
+// the first `len` places are in use. The states at its first `done` places were given out to be expanded. By a rule of the
+// project nothing allocates here, so the queue is a slice with its length beside it.
 #[derive(Drop)]
 struct Traversal<'a, P> {
     plan: &'a P,

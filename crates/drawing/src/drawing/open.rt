@@ -88,6 +88,8 @@ impl<'a> DrawingFile<'a> {
     fn read_states(&self) -> Result<[State; MOST_STATES], FileRefusal>
         ensures { MatchResult result (StatesRead self.now.bytes.now (states_in self.now.bytes.now)) (Refused self.now.bytes.now) }
     {
+        // By index, a form that the users of this project ask for: the row that is refused is named by it. (`array::try_from_fn` would not
+        // say that it is the lowest one.)
         let mut rows = [State::BLANK; MOST_STATES];
         let header = &self.header;
         let row_length = 2 + 4 * header.channels;
@@ -124,6 +126,7 @@ impl<'a> DrawingFile<'a> {
     fn read_steps(&self) -> Result<StepTable, FileRefusal>
         ensures { MatchResult result (StepsRead self.now.bytes.now (steps_in self.now.bytes.now)) (LowestAstray self.now.bytes.now) }
     {
+        // By index, as above: a row is compared with the one before it, and named where it is refused.
         let mut steps = StepTable::empty();
         for i in 0..self.header.steps {
             let row = self.step_row(i);

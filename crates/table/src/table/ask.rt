@@ -56,9 +56,9 @@ impl Plan for Table {
 
     fn step(&self, state: usize, i: usize) -> usize {
         match (self.row(state).steps, i) {
-            (Steps::One(first), 0) => first as usize,
-            (Steps::Two(first, _), 0) => first as usize,
-            (Steps::Two(_, second), 1) => second as usize,
+            (Steps::One(first), 0) => usize::from(first),
+            (Steps::Two(first, _), 0) => usize::from(first),
+            (Steps::Two(_, second), 1) => usize::from(second),
             _ => 0,
         }
     }

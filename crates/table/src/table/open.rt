@@ -52,6 +52,7 @@ fn read_rows(bytes: &[u8], header: &Header) -> Result<[Row; MOST_STATES], FileRe
     requires { HeaderRead bytes.now header.now }
     ensures { MatchResult result (RowsRead bytes.now (states_in bytes.now)) (Refused bytes.now) }
 {
+    // Tried with `array::try_from_fn`: its contract does not say that the row at which it stops is the lowest one refused.
     let mut rows = [Row::BLANK; MOST_STATES];
     for i in 0..header.states {
         rows[i] = Row::read(bytes, header.rows + ROW * i).ok_or(FileRefusal::Row(i))?;
