@@ -52,6 +52,7 @@ fn check_acceptable<A: Plan, B: Plan, R: Rule>(
     requires only_marked { OnlyMarked (A.meaning compared.now.first.now) (B.meaning compared.now.second.now) (kept_pairs pairs.now) }
     ensures { MatchResult result (λ _. AllAcceptable (A.meaning compared.now.first.now) (B.meaning compared.now.second.now) (R.says compared.now.rule.now) (kept_pairs pairs.now)) (λ m. NamesUnacceptable (A.meaning compared.now.first.now) (B.meaning compared.now.second.now) (R.says compared.now.rule.now) (kept_pairs pairs.now) (Err m)) }
 {
+    // Nested loops, as below: the pair that is refused is named by its two states.
     for s in 0..compared.first.states() {
         for t in 0..compared.second.states() {
             if pairs.stands(s, t) {
