@@ -51,7 +51,8 @@ module _ (file : List ℕ) where
       subst (MakeCalls file commands) (append-nil calls)
       (made.with_rest [] (subst (λ cs. MakeCalls file cs []) (sym (drop_all i commands all)) refl))
 
--- what stands with the lines that are still to come is the same after one line more, which takes the next answer if its command makes a call
+-- what stands with the lines that are still to come is the same after one line more, which takes the next answer if its
+-- command makes a call
 pub lines_more : (commands : List Command) (left left' : List Answer) (lines : List Line) (at i : ℕ) (d : Command) (new : Line) → i < length commands → at + i < length lines
     → new ≡ line_of (get_or commands i d) (get_or left 0 no_answer) → left' ≡ cond (is_call (get_or commands i d)) (drop 1 left) left
     → take (at + (i + 1)) (set lines (at + i) new) ++ command_lines (drop (i + 1) commands) left' ≡ take (at + i) lines ++ command_lines (drop i commands) left

@@ -35,7 +35,7 @@ fn make_calls<'a>(commands: &[Command], file: &'a [u8], calls: &mut [Call<'a>]) 
     ensures count { result ≤ length commands.now }
     ensures made { MakeCalls file.now commands.now (take result calls.new) }
 {
-    // The number of calls is handed back, so it is counted here; a `filter_map` in the loop's head would save no more than the `if let`.
+    // The number of calls is handed back, so it is counted here; a `filter_map` would save no more than the `if let`.
     let mut n = 0;
     for command in commands {
         if let Some(call) = call_of(*command, file) {
@@ -109,6 +109,7 @@ pub(crate) fn write_lines(commands: &[Command], answers: &[Answer], lines: &mut 
     ensures { take (at + length commands.now) lines.new ≡ take at lines.old ++ command_lines commands.now answers.now }
 {
     let mut left = answers.iter();
+    // By index: where the places are lent out by `zip`, the proof does not know afterwards what was written into them.
     for (i, command) in commands.iter().enumerate() {
         lines[at + i] = next_line(*command, &mut left);
     }

@@ -18,8 +18,9 @@ pub struct Files<'a> {
     pub pairs: &'a [u8],
 }
 
-// The slices that are lent for a session: for the lines, the commands that are read, and the answers to their calls. The slice
-// for the calls is lent beside them: these hold the pair file, and no rule of the borrow checker takes such a slice out of a struct.
+// The slices that are lent for a session: for the lines, the commands that are read, and the answers to their calls. The
+// slice for the calls is lent beside them: calls hold the pair file, and the borrow checker has no rule yet by which a
+// slice of what holds a reference is taken out of a struct.
 #[derive(Drop)]
 pub struct Room<'r> {
     pub lines: &'r mut [Line],
