@@ -2,7 +2,7 @@
 ghost use Rattle.std.specs.Prelude.{◌≡◌, ◌+◌, ◌≤◌, length, take, MatchResult};
 ghost use Rattle.drawing.specs.contracts.drawing.ask.DrawingPlan.TheImpl.{ghosts};
 ghost use Rattle.session.specs.Running.{Printed, NoRoom, RestPrinted};
-ghost use Rattle.session.specs.Lent.{has_room_in};
+ghost use Rattle.session.specs.Lent.{has_room_in, SameSlices};
 
 use crate::answers::{answer_beside, write_lines};
 use crate::line::Line;
@@ -59,7 +59,8 @@ pub fn session<'a>(
     room: &mut Room<'_>,
     calls: &mut [Call<'a>],
 ) -> Result<usize, TooShort>
-    ensures { MatchResult result (Printed files.now input.now (has_room_in (length input.now) (length calls.old) room.old) room.new.lines.now) (λ e. NoRoom input.now (has_room_in (length input.now) (length calls.old) room.old) room.old.commands.now room.new.commands.now room.old.answers.now room.new.answers.now room.old.lines.now room.new.lines.now e.needed) }
+    ensures prints { MatchResult result (Printed files.now input.now (has_room_in (length input.now) (length calls.old) room.old) room.new.lines.now) (λ e. NoRoom input.now (has_room_in (length input.now) (length calls.old) room.old) room.old.commands.now room.new.commands.now room.old.answers.now room.new.answers.now room.old.lines.now room.new.lines.now e.needed) }
+    ensures slices { SameSlices room.old room.new }
 {
     if !room.holds(input.len(), calls.len()) {
         return Err(TooShort {

@@ -7,8 +7,8 @@ use Rattle.session.proofs.Openings.{plan_opened, plan_refused}
 use Rattle.session.proofs.Whole.{commands_few, room_parts, print_refused, print_rest}
 use Rattle.session.proofs.run.session.Goals as goal
 
-pub returns-in_default : goal.returns-in_default
-returns-in_default c =
+pub returns-in_default-clause-prints : goal.returns-in_default-clause-prints
+returns-in_default-clause-prints c =
     let files = c.args.files.now in
     let lines = c.args.room.now.lines.now in
     let room = room_parts (length c.args.input.now) (length c.args.calls.now) c.args.room.now (sym c.if-not-holds.ensures) in
@@ -30,8 +30,8 @@ finish-requires c =
       lines = omega (arith, few, most, room.3, length-set c.args.room.now.lines.now 0 (line 68 c.opening_answer.result));
     }
 
-pub returns : goal.returns
-returns c =
+pub returns-clause-prints : goal.returns-clause-prints
+returns-clause-prints c =
     let files = c.args.files.now in
     let lines = c.args.room.now.lines.now in
     let room = room_parts (length c.args.input.now) (length c.args.calls.now) c.args.room.now (sym c.if-not-holds.ensures) in
