@@ -31,6 +31,7 @@ impl<A: Plan, B: Plan, R: Rule> Comparison<A, B, R> {
     fn check_rows(&self, file: &PairFile<'_>) -> Result<(), LoadRefusal>
         ensures { MatchResult result (λ _. RowsAllowed (setting_of A.meaning B.meaning R.says self.now) file.now.bytes.now (count_in file.now.bytes.now)) (RefusedRow (setting_of A.meaning B.meaning R.says self.now) file.now.bytes.now) }
     {
+        // By row number, which the refusal tells.
         for i in 0..file.count() {
             let (s, t) = file.row(i);
             self.check_pair(s, t)

@@ -15,7 +15,7 @@ pub struct State {
     pub codes: [u32; MOST_CHANNELS],
 }
 
-// The codes of the state row at this place.
+// The codes of the state row at this place. (That a place is near speaks of an argument, and of no value that lives on.)
 fn read_codes(bytes: &[u8], at: usize, channels: usize) -> [u32; MOST_CHANNELS]
     requires near { at < 100000 }
     requires few { channels ≤ 4 }

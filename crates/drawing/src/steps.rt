@@ -64,7 +64,7 @@ impl StepTable {
         requires { SpansFit self.now }
         ensures { result ≡ length (steps_of self.now state) }
     {
-        self.span(state).count as usize
+        usize::from(self.span(state).count)
     }
 
     // Where step i of this state leads, 0 where there is no such step.
@@ -73,8 +73,8 @@ impl StepTable {
         ensures { result ≡ slice_index (steps_of self.now state) i }
     {
         let span = self.span(state);
-        if i < span.count as usize {
-            self.targets[span.first as usize + i] as usize
+        if i < usize::from(span.count) {
+            usize::from(self.targets[usize::from(span.first) + i])
         } else {
             0
         }

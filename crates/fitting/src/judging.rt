@@ -106,7 +106,8 @@ fn check_covered<A: Plan, B: Plan, R: Rule>(
 
 // Puts the questions to the pairs. (That both plans have equally many channels is asked of private functions alone, here and where a
 // largest set is found. A type that holds it would wrap `Compared`, which is made without it too, and each function would reach its
-// plans through two structs.)
+// plans through two structs. That only marked pairs are in the set speaks of plans and pairs at once; a type of the three would be a
+// comparison again, which holds them.)
 fn judge_pairs<A: Plan, B: Plan, R: Rule>(
     compared: &Compared<'_, A, B, R>,
     pairs: &PairTable,

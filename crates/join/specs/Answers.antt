@@ -1,5 +1,5 @@
 -- What joining two plans answers.
-use Rattle.std.specs.Prelude.{◌+◌, ◌*◌, cond, Some, None, Option, Result}
+use Rattle.std.specs.Prelude.{◌+◌, ◌*◌, cond, ⊤, Result, Ok, Err}
 use Rattle.plan.specs.declared.answer.Answer.{Answer}
 use Rattle.plan.specs.Answers.{numbers, success, opening_numbers}
 use Rattle.plan.specs.Model.{Model}
@@ -30,9 +30,9 @@ back_numbers back = refusal_numbers back.refusal
 abbrev pub joining_numbers : {A B : Type 0} → (Joined A B → Model) → Result (Joined A B) (NotJoined A B) → Answer
 joining_numbers meaning = opening_numbers meaning back_numbers
 
--- the limits that two plans exceed: the product of the states is asked before the sum of the channels
-abbrev pub join_refused : Model → Model → Option JoinRefusal
-join_refused a b =
+-- Do two plans keep the limits? The product of the states is asked before the sum of the channels.
+abbrev pub limits_asked : Model → Model → Result ⊤ JoinRefusal
+limits_asked a b =
     cond (states_fit a b)
-    (cond (channels_fit a b) None (Some (Channels a.channels b.channels)))
-    (Some (States a.states b.states))
+    (cond (channels_fit a b) (Ok tt) (Err (Channels a.channels b.channels)))
+    (Err (States a.states b.states))

@@ -92,16 +92,12 @@ impl<A: Plan, B: Plan> Plan for Joined<A, B> {
     }
 
     fn step_count(&self, state: usize) -> usize {
-        match self.pair(state) {
-            Some((x, y)) => self.pair_step_count(x, y),
-            None => 0,
-        }
+        self.pair(state)
+            .map_or(0, |(x, y)| self.pair_step_count(x, y))
     }
 
     fn step(&self, state: usize, i: usize) -> usize {
-        match self.pair(state) {
-            Some((x, y)) => self.pair_step(x, y, i),
-            None => 0,
-        }
+        self.pair(state)
+            .map_or(0, |(x, y)| self.pair_step(x, y, i))
     }
 }

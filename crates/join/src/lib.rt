@@ -4,7 +4,7 @@
 ghost use Rattle.std.specs.Prelude.{◌≡◌, IfOk, MatchResult};
 ghost use Rattle.join.specs.Joining.{fits_join, SideBySide};
 ghost use Rattle.join.specs.Meaning.{joined_meaning};
-ghost use Rattle.join.specs.Answers.{join_answer, joining_numbers, refusal_numbers, back_numbers, join_refused};
+ghost use Rattle.join.specs.Answers.{join_answer, joining_numbers, refusal_numbers, back_numbers, limits_asked};
 
 use plan::{Answer, MOST_CHANNELS, MOST_STATES, Outcome, Plan};
 
@@ -54,19 +54,19 @@ impl<A, B> Outcome for NotJoined<A, B> {
     }
 }
 
-// The limits of a joined plan that two plans exceed, states before channels.
-fn refused<A: Plan, B: Plan>(first: &A, second: &B) -> Option<JoinRefusal>
-    ensures { result ≡ join_refused (A.meaning first.now) (B.meaning second.now) }
+// Do two plans keep the limits of a joined one? States before channels.
+fn check_limits<A: Plan, B: Plan>(first: &A, second: &B) -> Result<(), JoinRefusal>
+    ensures { result ≡ limits_asked (A.meaning first.now) (B.meaning second.now) }
 {
     let states = first.states() * second.states();
     if states > MOST_STATES {
-        return Some(JoinRefusal::States(first.states(), second.states()));
+        return Err(JoinRefusal::States(first.states(), second.states()));
     }
     let channels = first.channels() + second.channels();
     if channels > MOST_CHANNELS {
-        return Some(JoinRefusal::Channels(first.channels(), second.channels()));
+        return Err(JoinRefusal::Channels(first.channels(), second.channels()));
     }
-    None
+    Ok(())
 }
 
 impl<A: Plan, B: Plan> Joined<A, B> {
@@ -76,7 +76,7 @@ impl<A: Plan, B: Plan> Joined<A, B> {
         ensures plans { MatchResult result (λ j. (j.first ≡ first) × (j.second ≡ second)) (λ e. (e.first ≡ first) × (e.second ≡ second)) }
         ensures meets { IfOk result (λ j. SideBySide (A.meaning first) (B.meaning second) (joined_meaning A.meaning B.meaning j)) }
     {
-        if let Some(refusal) = refused(&first, &second) {
+        if let Err(refusal) = check_limits(&first, &second) {
             return Err(NotJoined {
                 refusal,
                 first,
@@ -98,7 +98,6 @@ impl<A: Plan, B: Plan> Joined<A, B> {
     fn fits(&self) -> bool
         ensures { result ≡ fits_join (A.meaning self.now.first) (B.meaning self.now.second) }
     {
-        (self.first.states() * self.second.states() <= MOST_STATES)
-            & (self.first.channels() + self.second.channels() <= MOST_CHANNELS)
+        check_limits(&self.first, &self.second).is_ok()
     }
 }

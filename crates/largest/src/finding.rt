@@ -42,6 +42,8 @@ pub fn find_largest<A: Plan, B: Plan, R: Rule>(
     ensures only { OnlyOne (FindsLargest (A.meaning first.now.plan) (B.meaning second.now.plan) (R.says rule.now)) }
     ensures shallow { NoneFitsMeans (A.meaning first.now.plan) (B.meaning second.now.plan) (R.says rule.now) }
 {
+    // As `judge` begins: the one question that both ask of vetted plans, and then the plans without their findings. A function for the
+    // two steps would have to promise of the struct what its three fields show.
     compare_plans(first, second)?;
     let compared = Compared {
         first: first.plan(),

@@ -36,6 +36,7 @@ pub(crate) fn next_round(next: &Closings, pairs: &mut PairTable) -> bool
     ensures tells { Tells result (kept_pairs pairs.old) (kept_pairs pairs.new) }
 {
     let covered = next.covered(pairs);
+    // Not `any`, which stops at the first yes, and not a new table, which would have to be counted.
     let mut struck = false;
     for s in 0..MOST_STATES {
         struck |= strike_row(next, &covered, s, pairs);

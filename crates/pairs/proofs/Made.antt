@@ -1,9 +1,9 @@
 -- A table that is made of a test, place by place.
-use Rattle.std.proofs.Common.{◌≡◌, ℕ, ◌+◌, ◌<◌, ◌≤◌, Bool, true, false, cond, ltb, ◌≢◌, MatchBool, sym, ap, ◌∙◌, subst, below_more, arith}
+use Rattle.std.proofs.Common.{◌≡◌, ℕ, ◌+◌, ◌<◌, ◌≤◌, Bool, true, false, cond, ltb, List, ◌≢◌, MatchBool, sym, ap, ◌∙◌, subst, below_more, arith}
 use Rattle.std.proofs.lemmas.Bool.{and_parts, ltb-true}
 use Rattle.std.proofs.lemmas.Bool.Decides.{nat_tests, same_from_decides}
 use Rattle.pairs.specs.declared.table.PairTable.{PairTable}
-use Rattle.pairs.specs.Pairs.{Pairs, Has, with_pair, without_pair, fits_table, kept_pairs}
+use Rattle.pairs.specs.Pairs.{Pairs, Has, with_pair, without_pair, fits_table, kept_pairs, RowSays}
 
 -- the table with this place set
 abbrev pub Set : Bool → Pairs → Pairs → ℕ → ℕ → Type 0
@@ -42,6 +42,17 @@ module _ (says : ℕ → ℕ → Bool → Type 0) (old new : Pairs) (s t : ℕ) 
   made_stays made x below y low =
       let other : x ≢ s = omega arith in
       subst (says x y) (sym (set_other_row stands old new s t x y other is)) (made x below y low)
+
+-- the rows below k are each what a row says that is given
+abbrev pub RowsGiven : (ℕ → List Bool → Type 0) → Pairs → ℕ → Type 0
+RowsGiven gives pairs k = (s : ℕ) → s < k → RowSays gives pairs s
+
+-- they stay, where a place of a later row is set
+pub given_stays : (gives : ℕ → List Bool → Type 0) (old new : Pairs) (s t : ℕ) (stands : Bool) → Set stands old new s t → RowsGiven gives old s → RowsGiven gives new s
+given_stays gives old new s t stands is given x below =
+    let other : x ≢ s = omega arith in
+    let row = given x below in
+    (row.0, row.1, λ y low. set_other_row stands old new s t x y other is ∙ row.2 y low)
 
 -- a row more
 pub made_more : (says : ℕ → ℕ → Bool → Type 0) (pairs : Pairs) (s k : ℕ) → 128 ≤ k → Made says pairs s → RowMade says pairs s k → Made says pairs (s + 1)

@@ -1,5 +1,5 @@
 -- Sets of pairs of states, and the table that keeps one.
-use Rattle.std.specs.Prelude.{◌≡◌, ℕ, ◌+◌, ◌*◌, Bool, true, false, not, ◌&&◌, ◌||◌, List, ◌==◌, nat_lt, slice_index, slice_index_or}
+use Rattle.std.specs.Prelude.{◌≡◌, ℕ, ◌+◌, ◌*◌, ◌<◌, Bool, true, false, not, ◌&&◌, ◌||◌, List, ◌==◌, nat_lt, slice_index, slice_index_or}
 use Rattle.pairs.specs.declared.table.PairTable.{PairTable}
 
 -- a set of pairs: is this state of the first plan paired with this one of the second
@@ -36,6 +36,6 @@ kept_pairs table x y = fits_table x y && slice_index table.bytes (x * 128 + y) =
 abbrev pub RowWithin : Pairs → ℕ → Pairs → ℕ → Type 0
 RowWithin pairs i other j = (y : ℕ) → Has pairs i y → Has other j y
 
--- a row that may be given for s says this at t
-abbrev pub RowSays : (ℕ → List Bool → Type 0) → ℕ → ℕ → Bool → Type 0
-RowSays gives s t says = (row : List Bool) × gives s row × (says ≡ slice_index_or row t false)
+-- the pairs with s are what one row says that is given for s
+abbrev pub RowSays : (ℕ → List Bool → Type 0) → Pairs → ℕ → Type 0
+RowSays gives pairs s = (row : List Bool) × gives s row × ((t : ℕ) → t < 128 → pairs s t ≡ slice_index_or row t false)

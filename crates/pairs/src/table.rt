@@ -90,7 +90,7 @@ impl PairTable {
     // would go through an array, and a reader through two closures.)
     pub fn from_rows<F: Fn(usize) -> [bool; MOST_STATES]>(rows: F) -> PairTable
         requires { F.IsAlwaysCallable rows }
-        ensures { (s t : ℕ) → s < 128 → t < 128 → RowSays (F.post rows) s t (kept_pairs result s t) }
+        ensures { (s : ℕ) → s < 128 → RowSays (F.post rows) (kept_pairs result) s }
     {
         let mut pairs = PairTable::empty();
         for first in 0..MOST_STATES {

@@ -37,7 +37,7 @@ pub record Printed (files : Files) (input : List ℕ) (room : Bool) (lines : Lis
   pub within : n ≤ length lines
   pub prints : Prints files.drawing.now files.table.now files.gauge.now files.pairs.now input (take n lines)
 
--- there is no room, which is told with the places that are needed, and nothing was written into the slices of commands, answers
+-- there is no room, which is told with the length of the input, and nothing was written into the slices of commands, answers
 -- and lines
 pub record NoRoom (input : List ℕ) (room : Bool) (commands commands' : List Command) (answers answers' : List Answer) (lines lines' : List Line) (needed : ℕ) : Type 0 where
   pub too_short : room ≡ false

@@ -18,7 +18,8 @@ pub struct Files<'a> {
     pub pairs: &'a [u8],
 }
 
-// The slices that are lent for a session: for the lines, the commands that are read, and the answers to their calls. The
+// The slices that are lent for a session: for the lines, the commands that are read, and the answers to their calls. By a rule
+// of the project what runs calls does not allocate, so these are slices of the caller's and no vectors made here. The
 // slice for the calls is lent beside them: calls hold the pair file, and the borrow checker has no rule yet by which a
 // slice of what holds a reference is taken out of a struct.
 #[derive(Drop)]

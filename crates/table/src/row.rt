@@ -76,7 +76,8 @@ impl Row {
         steps: Steps::Halt,
     };
 
-    // The row that begins at this place of a file, if it is proper.
+    // The row that begins at this place of a file, if it is proper. (That the place is near speaks of an argument, and of no value that
+    // lives on.)
     pub(crate) fn read(bytes: &[u8], at: usize) -> Option<Row>
         requires { at < 100000 }
         ensures { result ≡ (if proper_at bytes.now at then Some (kept_row bytes.now at) else None) }

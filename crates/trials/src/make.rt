@@ -21,9 +21,8 @@ fn push_words(bytes: &mut Vec<u8>, words: &[usize]) -> Result<(), AllocError> {
 fn push_state_rows(bytes: &mut Vec<u8>, states: usize, channels: usize) -> Result<(), AllocError> {
     for _ in 0..states {
         push_word(bytes, 1)?;
-        for _ in 0..channels {
-            bytes.extend_from_slice(&[0; 4])?;
-        }
+        let end = bytes.len().saturating_add(channels.saturating_mul(4));
+        bytes.resize(end, 0)?;
     }
     Ok(())
 }
@@ -36,7 +35,7 @@ pub(crate) fn drawing(
     steps: u16,
     channels: u16,
 ) -> Result<Vec<u8>, AllocError> {
-    let (states, steps, channels) = (states as usize, steps as usize, channels as usize);
+    let (states, steps, channels) = (usize::from(states), usize::from(steps), usize::from(channels));
     let step_rows = 14 + states * (2 + 4 * channels);
     let mut bytes = Vec::new(heap);
     bytes.extend_from_slice(&DRAWING_SIGN)?;
@@ -52,7 +51,7 @@ pub(crate) fn drawing(
 pub(crate) fn table(heap: Global, states: u16) -> Result<Vec<u8>, AllocError> {
     let mut bytes = Vec::new(heap);
     bytes.extend_from_slice(&TABLE_SIGN)?;
-    push_words(&mut bytes, &[states as usize, 0, 8])?;
+    push_words(&mut bytes, &[usize::from(states), 0, 8])?;
     for _ in 0..states {
         bytes.extend_from_slice(&[7, 0, 1, 0, 0, 0, 0, 0])?;
     }

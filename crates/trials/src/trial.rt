@@ -7,7 +7,7 @@ use std::alloc::{AllocError, Global};
 use std::io;
 use table::Table;
 
-// The file that a case starts from.
+// The file that a case starts from. The kinds are data, as the cases are, which are constants: so no closure stands here.
 #[derive(Clone, Copy)]
 pub enum Made {
     // States, steps and channels.

@@ -9,7 +9,8 @@ use plan::{MOST_STATES, Plan};
 use walk::{has, led_from, led_from_marked};
 
 // Can this state be reached from a marked one, and is it unmarked? `led` has the states that marked ones lead to. (Tried: the two in
-// a struct whose ghost field says so. It has to be a fact with one proof at most, and this one names a marked state for each.)
+// a struct whose ghost field says so. A ghost field is a fact with one proof at most; this one names a marked state for each, and cut
+// down to 'there is one' it cannot be given out again where `Between` names it.)
 fn is_between<P: Plan>(plan: &P, led: &[bool; MOST_STATES], state: usize) -> bool
     requires { MarkedLeadInto (P.meaning plan.now) led.now }
     ensures { Decides result (Between (P.meaning plan.now) state) }

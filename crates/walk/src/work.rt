@@ -8,7 +8,8 @@ use plan::{Plan, TooShort};
 
 // A walk on its way: the plan; the states that were reached; those that were ever put into the queue; and the queue, of which
 // the first `len` places are in use. The states at its first `done` places were given out to be expanded. By a rule of the
-// project nothing allocates here, so the queue is a slice with its length beside it.
+// project nothing allocates here, so the queue is a slice with its length beside it. That a method leaves the plan and the
+// slices as they are (`Kept`) speaks of an old and a new work, so it is no fact of this type.
 #[derive(Drop)]
 struct Traversal<'a, P> {
     plan: &'a P,
@@ -93,8 +94,8 @@ impl<'a, P: Plan> Traversal<'a, P> {
 
 // Walks from the first states, a set that is kept as a slice of yes and no, and marks exactly the states that they lead
 // to: by one or more steps, with only unmarked states between. The other two slices are work space. Refused, and nothing
-// touched, where one of the three is shorter than the plan has states. The three stay parameters by a rule of the project:
-// who calls lends them from locals of its own.
+// touched, where one of the three is shorter than the plan has states. The three stay parameters: that a walk works in
+// slices which its caller lends from locals of its own is a form that the users of this project ask for.
 pub fn walk<P: Plan>(
     plan: &P,
     first: &[bool],

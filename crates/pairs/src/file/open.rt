@@ -65,9 +65,9 @@ impl<'a> PairFile<'a> {
         ensures { MatchResult result (HeaderOf bytes.now) (RefusedFile bytes.now) }
     {
         let file = PairFile::read_frame(bytes)?;
-        match file.lowest_out_of_order() {
-            Some(row) => Err(FileRefusal::Step(row)),
-            None => Ok(file),
+        if let Some(row) = file.lowest_out_of_order() {
+            return Err(FileRefusal::Step(row));
         }
+        Ok(file)
     }
 }

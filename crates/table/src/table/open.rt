@@ -65,13 +65,13 @@ fn check_targets(rows: &[Row; MOST_STATES], states: usize) -> Result<(), FileRef
     requires { states ≤ 128 }
     ensures { MatchResult result (λ _. LeadWithin rows.now states states) (LowestAstray rows.now states) }
 {
-    match rows[..states]
+    let astray = rows[..states]
         .iter()
-        .position(|row| !row.steps.lead_within(states))
-    {
-        Some(row) => Err(FileRefusal::Step(row)),
-        None => Ok(()),
+        .position(|row| !row.steps.lead_within(states));
+    if let Some(row) = astray {
+        return Err(FileRefusal::Step(row));
     }
+    Ok(())
 }
 
 impl Table {

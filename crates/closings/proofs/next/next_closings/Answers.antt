@@ -13,5 +13,5 @@ returns g c =
     tabulated c.from_rows.result (Follows m)
     (λ s x next. (omega (arith, marked_below m laws s next.0, laws.few), omega (arith, next_below m laws s x next.1.0, laws.few)))
     (λ s x low low'.
-    let row = c.from_rows.ensures s x low low' in
-    Decides-at (kept_pairs c.from_rows.result s x) (get_or row.0 x false) row.2 (row.1 x))
+    let row = c.from_rows.ensures s low in
+    Decides-at (kept_pairs c.from_rows.result s x) (get_or row.0 x false) (row.2 x low') (row.1 x))
