@@ -11,14 +11,14 @@ use plan::TooShort;
 fn command_by(letter: u8, numbers: Option<(usize, usize)>, alone: bool) -> Command
     ensures { result ≡ command_by letter numbers alone }
 {
-    match letter as char {
-        'a' => numbers.map_or(Command::Unknown, |(first, second)| {
+    match letter {
+        b'a' => numbers.map_or(Command::Unknown, |(first, second)| {
             Command::Add(first, second)
         }),
-        's' => numbers.map_or(Command::Unknown, |(first, second)| {
+        b's' => numbers.map_or(Command::Unknown, |(first, second)| {
             Command::Strike(first, second)
         }),
-        'p' if alone => Command::Load,
+        b'p' if alone => Command::Load,
         _ => Command::Unknown,
     }
 }
