@@ -97,7 +97,6 @@ impl<A: Plan, B: Plan> Plan for Joined<A, B> {
     }
 
     fn step(&self, state: usize, i: usize) -> usize {
-        self.pair(state)
-            .map_or(0, |(x, y)| self.pair_step(x, y, i))
+        self.pair(state).map_or(0, |(x, y)| self.pair_step(x, y, i))
     }
 }

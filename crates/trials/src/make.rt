@@ -35,7 +35,11 @@ pub(crate) fn drawing(
     steps: u16,
     channels: u16,
 ) -> Result<Vec<u8>, AllocError> {
-    let (states, steps, channels) = (usize::from(states), usize::from(steps), usize::from(channels));
+    let (states, steps, channels) = (
+        usize::from(states),
+        usize::from(steps),
+        usize::from(channels),
+    );
     let step_rows = 14 + states * (2 + 4 * channels);
     let mut bytes = Vec::new(heap);
     bytes.extend_from_slice(&DRAWING_SIGN)?;
