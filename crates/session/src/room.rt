@@ -9,13 +9,14 @@ use plan::Answer;
 // At most so many lines come before those of the commands: D, L and G.
 pub(crate) const OPENING_LINES: usize = 3;
 
-// The bytes of a folder's files.
+// The bytes of a folder's files. Each is lent for as long as its owner likes: calls hold the pair file while their slice is lent, and
+// the plan files may be gone sooner.
 #[derive(Clone, Copy)]
-pub struct Files<'a> {
-    pub drawing: &'a [u8],
-    pub table: &'a [u8],
-    pub gauge: &'a [u8],
-    pub pairs: &'a [u8],
+pub struct Files<'d, 't, 'g, 'p> {
+    pub drawing: &'d [u8],
+    pub table: &'t [u8],
+    pub gauge: &'g [u8],
+    pub pairs: &'p [u8],
 }
 
 // The slices that are lent for a session: for the lines, the commands that are read, and the answers to their calls. By a rule

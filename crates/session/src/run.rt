@@ -17,7 +17,7 @@ use table::Table;
 // The lines L and G, and those of the commands, behind the line D of this drawing. Gives how many lines there are in all.
 fn finish<'a>(
     drawing: Drawing,
-    files: &Files<'a>,
+    files: &Files<'_, '_, '_, 'a>,
     commands: &[Command],
     calls: &mut [Call<'a>],
     answers: &mut [Answer],
@@ -54,7 +54,7 @@ fn finish<'a>(
 // refusal, and then a line for each line of the input. Gives how many lines there are. Refused, and nothing written, where a
 // slice is shorter than the input, or the lines are not three more; the refusal tells how long the input is.
 pub fn session<'a>(
-    files: &Files<'a>,
+    files: &Files<'_, '_, '_, 'a>,
     input: &[u8],
     room: &mut Room<'_>,
     calls: &mut [Call<'a>],
