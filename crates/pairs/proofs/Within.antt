@@ -27,7 +27,7 @@ module _ (pairs : Pairs) (s : ℕ) where
       (λ (lower : t < k). counts_none k t lower (omega (arith, both)) has)
       (cases_le t k (omega (arith, low)))
 
-  none_counts : (k : ℕ) → ((t : ℕ) → Has pairs s t → ⊥) → length (partners_below pairs s k) ≡ 0
+  pub none_counts : (k : ℕ) → ((t : ℕ) → Has pairs s t → ⊥) → length (partners_below pairs s k) ≡ 0
   unfolding partners_below
   none_counts zero never = refl
   none_counts (suc k) never = simp length-append (omega (arith, none_counts k never, no_place (pairs s k) (s, k) (never k)))

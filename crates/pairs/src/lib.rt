@@ -2,8 +2,10 @@
 #![tactic(auto)]
 
 mod file;
+mod header;
 mod table;
 mod write;
 
 pub use file::PairFile;
+pub use header::PairHeader;
 pub use table::PairTable;

@@ -1,12 +1,13 @@
 // Opening a pair file: the questions that are put to the file alone, and its rows.
 ghost use Rattle.std.specs.Prelude.{◌≡◌, ◌<◌, not, if◌then◌else◌, MatchOption, MatchResult, nat_lt};
 ghost use Rattle.layout.specs.Lowest.{Lowest};
-ghost use Rattle.pairs.specs.PairFile.{InOrder, RefusedFile, out_of_order, count_in, first_in, second_in};
+ghost use Rattle.pairs.specs.PairFile.{InOrder, RefusedFile, out_of_order, count_in, rows_in, first_in, second_in};
 ghost use Rattle.pairs.specs.Opened.{HeaderOf, FrameOf};
 
 use super::{HEADER, PairFile, ROW, SIGN};
+use crate::header::PairHeader;
 use crate::table::MOST_PAIRS;
-use layout::{FileRefusal, byte, check_beginning, word};
+use layout::{FileRefusal, check_beginning, word};
 
 impl<'a> PairFile<'a> {
     // Puts questions 1, 2, 3 and 5.
@@ -25,16 +26,22 @@ impl<'a> PairFile<'a> {
         Ok(PairFile { bytes, count, rows })
     }
 
+    // What its header says, without the bytes.
+    pub fn header(&self) -> PairHeader
+        ensures count { result.count ≡ count_in self.now.bytes.now }
+        ensures rows { result.rows ≡ rows_in self.now.bytes.now }
+    {
+        PairHeader {
+            count: self.count,
+            rows: self.rows,
+        }
+    }
+
     // The states of row i, zeros where there is no such row.
     pub fn row(&self, i: usize) -> (usize, usize)
         ensures { result ≡ (if nat_lt i (count_in self.now.bytes.now) then (first_in self.now.bytes.now i, second_in self.now.bytes.now i) else (0, 0)) }
     {
-        if i >= self.count {
-            return (0, 0);
-        }
-        let at = self.rows + ROW * i;
-        let state = |place| usize::from(byte(self.bytes, place));
-        (state(at), state(at + 1))
+        self.header().row(self.bytes, i)
     }
 
     // How many rows there are.
