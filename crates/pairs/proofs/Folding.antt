@@ -84,7 +84,7 @@ within m (x ∷ xs) (y ∷ ys) same =
     )
 
 -- the bytes of a row
-abbrev RowOf : PairTable → ℕ → List ℕ → Type 0
+abbrev pub RowOf : PairTable → ℕ → List ℕ → Type 0
 RowOf table i xs = (y : ℕ) → y < 128 → eqb (get_or xs y 0) 1 ≡ kept_pairs table i y
 
 module _ (table other : PairTable) (i j : ℕ) (xs ys : List ℕ) (long : length xs ≡ 128) (long' : length ys ≡ 128) (row : RowOf table i xs) (row' : RowOf other j ys) (r : Bool) where

@@ -19,7 +19,7 @@ pub record FrameOf (b : List ℕ) (file : PairFile) : Type 0 where
   pub rows_is : file.rows ≡ rows_in b
   pub bytes_same : file.bytes.now ≡ b
 
--- what the header of such a file says, without its bytes
+-- the header of a file that passes all questions that are put to the file alone, without the file's bytes
 pub record HeaderIn (b : List ℕ) (h : PairHeader) : Type 0 where
   pub frame_in : FramePasses b
   pub order_in : InOrder b (count_in b)

@@ -62,7 +62,7 @@ impl PairTable {
         if first >= MOST_STATES {
             return 0;
         }
-        // Over the bytes of the row: asked state by state, each place would first be held to the table's size.
+        // A sum: `filter` and `count`, over the states or over these bytes, take more than twice as long.
         self.row(first)
             .iter()
             .map(|byte| usize::from(*byte == 1))

@@ -9,8 +9,8 @@ use plan::Answer;
 // At most so many lines come before those of the commands: D, L and G.
 pub(crate) const OPENING_LINES: usize = 3;
 
-// The bytes of a folder's files. Each is lent for as long as its owner likes: calls hold the pair file while their slice is lent, and
-// the plan files may be gone sooner.
+// The bytes of a folder's files, each with a lifetime of its own: calls hold the pair file as long as they live, and the plan files
+// may be gone sooner.
 #[derive(Clone, Copy)]
 pub struct Files<'d, 't, 'g, 'p> {
     pub drawing: &'d [u8],

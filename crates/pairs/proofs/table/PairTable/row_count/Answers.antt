@@ -13,7 +13,7 @@ sum-requires-clause-fits c =
     let pairs = kept_pairs c.args.self.now in
     fits_by_from_yields_list (λ x. cond (eqb x 1) 1 0) c.row.result.now c.map.result _
     (YieldsList-from_map _ (λ x. cond (eqb x 1) 1 0) (YieldsList-from_slice c.row.result.now (cc)) c.map.ensures.closure (λ x r q k. search (rules, tests)))
-    (omega (arith, row_counted pairs c.args.first c.row.result.now c.row.ensures.long c.row.ensures.kept, partners_length pairs c.args.first 128))
+    (omega (arith, row_counted c.args.self.now c.args.first c.row.result.now c.row.ensures.long c.row.ensures.kept, partners_length pairs c.args.first 128))
 
 pub returns-then-first-ge-MOST_STATES : goal.returns-then-first-ge-MOST_STATES
 returns-then-first-ge-MOST_STATES c =
@@ -22,7 +22,6 @@ returns-then-first-ge-MOST_STATES c =
 
 pub returns : goal.returns
 returns c =
-    let pairs = kept_pairs c.args.self.now in
     sum_by_from_yields_List (λ x. cond (eqb x 1) 1 0) c.row.result.now c.map.result _ c.sum.ensures.ran
     (YieldsList-from_map _ (λ x. cond (eqb x 1) 1 0) (YieldsList-from_slice c.row.result.now (cc)) c.map.ensures.closure (λ x r q k. search (rules, tests)))
-    ∙ row_counted pairs c.args.first c.row.result.now c.row.ensures.long c.row.ensures.kept
+    ∙ row_counted c.args.self.now c.args.first c.row.result.now c.row.ensures.long c.row.ensures.kept
